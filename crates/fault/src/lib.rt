@@ -174,9 +174,12 @@ impl ManagerFault {
     {
         match *self {
             ManagerFault::TooManyAccesses | ManagerFault::LineEmpty | ManagerFault::LineFull => 0,
-            ManagerFault::RepeatedAddress { access } | ManagerFault::NotHeld { access } => usize::from(access),
+            ManagerFault::RepeatedAddress { access } | ManagerFault::NotHeld { access } =>
+                usize::from(access),
             ManagerFault::Table(fault) => fault.place(),
-            ManagerFault::NotRunning { seat } | ManagerFault::NoStepLeft { seat } | ManagerFault::StepsLeft { seat } => usize::from(seat),
+            ManagerFault::NotRunning { seat }
+            | ManagerFault::NoStepLeft { seat }
+            | ManagerFault::StepsLeft { seat } => usize::from(seat),
         }
     }
 }

@@ -62,8 +62,8 @@ directions (a ∷ more) k bs =
 abbrev pub submission-of : ℕ → List ℕ → Read Contents
 submission-of n bs =
     then (number 4 4 bs) (λ name bs.
-      then (number 4 8 bs) (λ kind bs.
-        then (addresses n 12 bs) (λ list bs. then (directions list (12 + 8 * n) bs) (λ xs rest. Ok (submits name kind xs, rest)))))
+    then (number 4 8 bs) (λ kind bs.
+    then (addresses n 12 bs) (λ list bs. then (directions list (12 + 8 * n) bs) (λ xs rest. Ok (submits name kind xs, rest)))))
 
 -- a submission behind its first two bytes
 abbrev pub submission : List ℕ → Read Contents

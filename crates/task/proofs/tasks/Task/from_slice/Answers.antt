@@ -35,9 +35,12 @@ loop-access-again c =
     let room : ltb (length old) 15 ≡ true = passed _ (c .in-Continue-push .ensures tt .value) in
     let same : old ≡ take i xs = c .loop-access .inv .3 in
     let long : length old ≡ i = ap length same ∙ simp length-take (omega arith) in
-    let lt : i < 15 = omega (arith, ltb-true, long, room) in
-    (omega arith, c .push .ensures .name ∙ c .loop-access .inv .1, c .push .ensures .kind ∙ c .loop-access .inv .2,
-     c .push .ensures .accesses ∙ rw (room, same) (sym (take-more xs i blank (c .loop-access-test .taken))))
+    let lt : i < 15 = omega (arith, ltb-true, long, room) in (
+      omega arith,
+      c .push .ensures .name ∙ c .loop-access .inv .1,
+      c .push .ensures .kind ∙ c .loop-access .inv .2,
+      c .push .ensures .accesses ∙ rw (room, same) (sym (take-more xs i blank (c .loop-access-test .taken))),
+    )
 
 pub returns-in-Break-push : need.returns-in-Break-push
 returns-in-Break-push c =
