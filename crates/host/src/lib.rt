@@ -1,9 +1,12 @@
 // The host interface: where values live and work is done, stated by its meaning.
+pub mod seat_values;
+
 ghost use mathlib.Core.Path.{_≡_};
 ghost use mathlib.Core.Bool.{cond, _&&_};
 ghost use lib.Dec.{ltb};
 ghost use Rattle.host.specs.Meaning.{Fixed, Values, brought, stored, seats, positions};
 ghost use Rattle.std.specs.declared.option.Option.the-variants.{Some, None};
+pub use seat_values::SeatValues;
 
 // How many seats have values held aside.
 pub const SEATS: usize = 256;
