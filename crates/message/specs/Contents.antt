@@ -1,6 +1,6 @@
 -- What a message of the code says, and what a read answers and leaves. Assumes nothing.
 use mathlib.Core.Path.{_≡_}
-use mathlib.Core.List.{List, _∷_}
+use mathlib.Core.List.{List, _∷_, _++_}
 use Prim.Native.Nat.{ℕ, _+_, _-_, _*_, _≤_}
 use lib.ListN.{length, drop}
 use Rattle.std.specs.declared.result.Result.{Result}
@@ -18,11 +18,13 @@ abbrev pub contents-of : Message → Contents
 contents-of (Submission task) = submits (task .name) (task .kind) (accesses-of task)
 contents-of (Finish seat) = finishes seat
 
--- a read of these bytes at this place gives this answer and leaves that place: the message that stands there, with the place
--- right behind its bytes; or the first fault, with the place as it was
+-- a read of these bytes at this place gives this answer and leaves that place: the message that stands there, laid out in just
+-- the bytes from the place to that behind it; or the first fault, with the place as it was
 abbrev pub Answered : List ℕ → ℕ → Result Message StreamFault → ℕ → Type 0
 Answered bytes place (Ok message) after =
-    (read place (drop place bytes) ≡ Ok (contents-of message, drop after bytes)) × (after ≡ place + length (layout (contents-of message)))
+    (read place (drop place bytes) ≡ Ok (contents-of message, drop after bytes))
+    × (drop place bytes ≡ layout (contents-of message) ++ drop after bytes)
+    × (after ≡ place + length (layout (contents-of message)))
 Answered bytes place (Err fault) after = (read place (drop place bytes) ≡ Err fault) × (after ≡ place)
 
 -- a field of w bytes, as the reader has it, is read at a place of these bytes, in a message that begins at start: its value, with
@@ -42,6 +44,11 @@ List-read field items w bytes start place (Err fault) after = field (place - sta
 abbrev pub Body-read : {X : Type 0} → (List ℕ → Read Contents) → (X → Contents) → (X → ℕ) → List ℕ → ℕ → Result X StreamFault → ℕ → Type 0
 Body-read body says w bytes place (Ok x) after = (body (drop place bytes) ≡ Ok (says x, drop after bytes)) × (after ≡ place + w x)
 Body-read body says w bytes place (Err fault) after = body (drop place bytes) ≡ Err fault
+
+-- a message that was read is laid out in just the bytes from the place to that behind it
+abbrev pub Laid-out : List ℕ → ℕ → Result Message StreamFault → ℕ → Type 0
+Laid-out bytes place (Ok message) after = drop place bytes ≡ layout (contents-of message) ++ drop after bytes
+Laid-out bytes place (Err fault) after = Unit {0}
 
 -- what a submitted task says; and how many bytes its submission has behind the first two
 abbrev pub submitted : Task → Contents

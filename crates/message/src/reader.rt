@@ -4,7 +4,7 @@ ghost use mathlib.Core.List.{[], _∷_};
 ghost use Prim.Native.Nat.{ℕ, _+_, _<_, _≤_};
 ghost use lib.ListN.{length};
 ghost use Rattle.layout.specs.Reading.{submission, read};
-ghost use Rattle.message.specs.Contents.{contents-of, submitted, submission-width, message-width, Answered, Body-read, Header-read};
+ghost use Rattle.message.specs.Contents.{contents-of, submitted, submission-width, message-width, Answered, Body-read, Header-read, Laid-out};
 ghost use Rattle.std.specs.declared.result.Result.the-variants.{Err};
 use crate::Message;
 use crate::Place;
@@ -71,7 +71,8 @@ pub fn read_message(bytes: &[u8], place: &mut Place) -> Result<Message, StreamFa
 // The message at the place, which moves on with each field.
 fn message(bytes: &[u8], place: &mut Place) -> Result<Message, StreamFault>
     requires { ⌜ now place .at < length (now bytes) ⌝ }
-    ensures { λ r. ⌜ Body-read (read (now (place .entry) .at)) contents-of message-width (now (bytes .entry)) (now (place .entry) .at) r (now (place .exit) .at) ⌝ }
+    ensures laid { λ r. ⌜ Laid-out (now (bytes .entry)) (now (place .entry) .at) r (now (place .exit) .at) ⌝ }
+    ensures read { λ r. ⌜ Body-read (read (now (place .entry) .at)) contents-of message-width (now (bytes .entry)) (now (place .entry) .at) r (now (place .exit) .at) ⌝ }
 {
     let start = place.at;
     match header(bytes, place)? {
