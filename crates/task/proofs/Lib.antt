@@ -1,1 +1,1 @@
-mod Some
+pub mod Some
