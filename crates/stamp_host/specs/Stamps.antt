@@ -11,13 +11,21 @@ use Rattle.stamp_host.specs.Limit.{max-stamps}
 use Rattle.stamp_host.specs.Rule.{stamp-rule}
 use Rattle.stamp_host.specs.declared.StampHost.{StampHost}
 
--- a host with n stamps, or max-stamps if n is more, holds the addresses below that number
+-- what is fixed of a host with n stamps: it holds the addresses below n
+abbrev pub fixed-by : ℕ → Fixed ℕ
+fixed-by n = record { held = λ a. ltb a n; rule = stamp-rule }
+
+-- the stamp of a list at each of the first n addresses, and 0 at every other address
+abbrev pub stamp-at : ℕ → List ℕ → ℕ → ℕ
+stamp-at n stamps a = cond (ltb a n) (getD stamps a 0) 0
+
+-- what is fixed of a host that is made of n stamps, or of max-stamps if n is more
 abbrev pub fixed-for : ℕ → Fixed ℕ
-fixed-for n = record { held = λ a. ltb a (min n max-stamps); rule = stamp-rule }
+fixed-for n = fixed-by (min n max-stamps)
 
 -- the stamps of a list at the held addresses, 0 at every other address, and zeros held aside
 abbrev pub values-from : List ℕ → Values ℕ
-values-from stamps = record { at = λ a. cond (ltb a (min (length stamps) max-stamps)) (getD stamps a 0) 0; aside = λ s p. 0 }
+values-from stamps = record { at = stamp-at (min (length stamps) max-stamps) stamps; aside = λ s p. 0 }
 
 -- 0 at every address and zeros held aside
 abbrev pub all-zero : Values ℕ
@@ -27,10 +35,10 @@ all-zero = record { at = λ a. 0; aside = λ s p. 0 }
 abbrev pub count-of : StampHost → ℕ
 count-of h = vec-len (h .stamps)
 
--- what is fixed of a host: it holds an address for each of its stamps
+-- what is fixed of a host
 abbrev pub fixed-of : StampHost → Fixed ℕ
-fixed-of h = record { held = λ a. ltb a (count-of h); rule = stamp-rule }
+fixed-of h = fixed-by (count-of h)
 
 -- the values of a host: its stamps at the held addresses, 0 at every other address, and the stamps held aside
 abbrev pub values-of : StampHost → Values ℕ
-values-of h = record { at = λ a. cond (ltb a (count-of h)) (getD (vec-items (h .stamps)) a 0) 0; aside = aside-of 0 (h .aside) }
+values-of h = record { at = stamp-at (count-of h) (vec-items (h .stamps)); aside = aside-of 0 (h .aside) }
