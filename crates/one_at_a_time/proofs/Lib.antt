@@ -1,0 +1,5 @@
+mod Empty
+mod Numbering
+mod Bringing
+mod Putting
+mod Whole

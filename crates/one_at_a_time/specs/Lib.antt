@@ -1,0 +1,3 @@
+pub mod Alone
+pub mod Journal
+pub mod Ran
