@@ -3,3 +3,4 @@ mod Numbering
 mod Bringing
 mod Putting
 mod Whole
+mod Runs
