@@ -39,6 +39,9 @@ fn write_task<W: fmt::Write>(f: &mut fmt::Formatter<W>, run: &TaskRun<u64>) -> f
     let name = run.task.name;
     let kind = run.task.kind;
     write!(f, "task {name} kind {kind}: read")?;
+    if run.read.is_empty() {
+        write!(f, " nothing")?;
+    }
     let mut values = run.read.iter();
     for access in run.task.accesses() {
         if access.reads() {
@@ -46,6 +49,9 @@ fn write_task<W: fmt::Write>(f: &mut fmt::Formatter<W>, run: &TaskRun<u64>) -> f
         }
     }
     write!(f, "; wrote")?;
+    if run.wrote.is_empty() {
+        write!(f, " nothing")?;
+    }
     let mut values = run.wrote.iter();
     for access in run.task.accesses() {
         if access.writes() {
