@@ -1,0 +1,5 @@
+// The two hosts, run on examples and at their limits.
+#[cfg(test)]
+mod stamps;
+#[cfg(test)]
+mod tiles;
