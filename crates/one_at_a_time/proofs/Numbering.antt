@@ -1,6 +1,6 @@
 -- Going through the accesses of a task from the front. Assumes nothing.
 use mathlib.Core.Path.{_≡_, refl, ap, sym, _∙_, subst}
-use mathlib.Core.Bool.{Bool, true, cond}
+use mathlib.Core.Bool.{Bool, true}
 use mathlib.Core.List.{List, [], _∷_}
 use Prim.Native.Nat.{ℕ, suc, _+_, _<_, _≤_}
 use native.Mathlib.Numerals.{add-one}
@@ -8,7 +8,7 @@ use lib.ListN.{length, drop, getD}
 use lib.Seq.{drop-cons}
 use Rattle.std.proofs.shelf.Lists.{drop-all}
 use Rattle.task.specs.declared.Access.{Access}
-use Rattle.task.specs.Access.{Numbered, numbered}
+use Rattle.task.specs.Access.{Numbered, keep, numbered}
 use Rattle.task.proofs.Some.{blank}
 use Rattle.host.specs.Meaning.{Fixed}
 use Rattle.one_at_a_time.specs.Alone.{All-held}
@@ -20,11 +20,10 @@ module _ (xs : List Access) (i : ℕ) (lt : i < length xs) where
 
   -- the accesses that pass a test, from i on: that at i if it passes, and those behind it
   pub numbered-more : (p : Access → Bool) (b : Bool) → p (getD xs i blank) ≡ b →
-      numbered p i (drop i xs) ≡ cond b (record { number = i; address = getD xs i blank .address } ∷ numbered p (i + 1) (drop (i + 1) xs)) (numbered p (i + 1) (drop (i + 1) xs))
+      numbered p i (drop i xs) ≡ keep b (record { number = i; address = getD xs i blank .address }) (numbered p (i + 1) (drop (i + 1) xs))
   numbered-more p b e =
-      ap (numbered p i) cut
-      ∙ ap (λ (t : Bool). cond t (record { number = i; address = getD xs i blank .address } ∷ numbered p (suc i) (drop (i + 1) xs)) (numbered p (suc i) (drop (i + 1) xs))) e
-      ∙ ap (λ (j : ℕ). cond b (record { number = i; address = getD xs i blank .address } ∷ numbered p j (drop (i + 1) xs)) (numbered p j (drop (i + 1) xs))) (sym (add-one i))
+      let x : Numbered = record { number = i; address = getD xs i blank .address } in
+      ap (numbered p i) cut ∙ ap (λ (t : Bool). keep t x (numbered p (suc i) (drop (i + 1) xs))) e ∙ ap (λ (j : ℕ). keep b x (numbered p j (drop (i + 1) xs))) (sym (add-one i))
 
   -- the address of the access at i is held, and so are those behind it
   pub held-more : {V : Type 0} (h : Fixed V) → All-held h (drop i xs) → (h .held (getD xs i blank .address) ≡ true) × All-held h (drop (i + 1) xs)

@@ -4,7 +4,7 @@
 --   conflicting          two accesses conflict
 --   conflict             two tasks conflict, by their lists of accesses
 --   readers, writers     the accesses of a task that read, and those that write, each with its number
-use mathlib.Core.Bool.{Bool, true, false, cond, _&&_, _||_}
+use mathlib.Core.Bool.{Bool, true, false, _&&_, _||_}
 use mathlib.Core.List.{List, [], _∷_}
 use Prim.Native.Nat.{ℕ, suc}
 use lib.Dec.{eqb}
@@ -49,10 +49,15 @@ pub record Numbered : Type 0 where
   pub number : ℕ
   pub address : ℕ
 
+-- an element before a list, if the test holds
+abbrev pub keep : {A : Type 0} → Bool → A → List A → List A
+keep true x rest = x ∷ rest
+keep false x rest = rest
+
 -- the accesses that pass the test, in order, where the first of the list has the number i
 abbrev pub numbered : (Access → Bool) → ℕ → List Access → List Numbered
 numbered p i [] = []
-numbered p i (x ∷ xs) = cond (p x) (record { number = i; address = x .address } ∷ numbered p (suc i) xs) (numbered p (suc i) xs)
+numbered p i (x ∷ xs) = keep (p x) (record { number = i; address = x .address }) (numbered p (suc i) xs)
 
 -- the accesses that read, and those that write, in order of access number
 abbrev pub readers : List Access → List Numbered
