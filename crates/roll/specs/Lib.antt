@@ -1,0 +1,6 @@
+pub mod Steps
+pub mod Roll
+pub mod Tables
+pub mod Calls
+pub mod History
+pub mod Law

@@ -1,0 +1,1 @@
+// The roll and its calls as definitions, and the law over runs.
