@@ -15,7 +15,7 @@ use Rattle.fault.specs.declared.ManagerFault.{ManagerFault}
 use Rattle.fault.specs.declared.ManagerFault.the-variants.{Table, NotRunning, NoStepLeft, StepsLeft, LineEmpty}
 use Rattle.task.specs.declared.Access.{Access}
 use Rattle.host.specs.Meaning.{Fixed, Values}
-use Rattle.roll.specs.Steps.{Step, bring, put, steps, Job, done}
+use Rattle.order.specs.Steps.{Step, bring, put, steps, Job, done}
 use Rattle.roll.specs.Roll.{Standing, waiting, ready, running, Entry, Roll, blocked, find, change, without, wake, woken}
 use Rattle.roll.specs.Tables.{Tables, tables, submit-fault}
 

@@ -13,7 +13,7 @@ use Rattle.task.specs.declared.Access.{Access}
 use Rattle.task.specs.Access.{readers, writers}
 use Rattle.host.specs.Meaning.{Fixed, Values, update}
 use Rattle.one_at_a_time.specs.Alone.{values-read, alone}
-use Rattle.roll.specs.Steps.{Job}
+use Rattle.order.specs.Steps.{Job}
 use Rattle.roll.specs.Roll.{Entry, Roll}
 use Rattle.roll.specs.Calls.{Setting, State, Call, submit, take, step, finish, Answer, seated, taken, brought-access, put-access, woke, Success, Outcome, refused, succeeded, perform, made}
 

@@ -3,23 +3,16 @@ use mathlib.Core.Path.{_≡_}
 use mathlib.Core.Bool.{true}
 use mathlib.Core.List.{List, [], _∷_}
 use mathlib.Core.Logic.{_↔_}
-use Prim.Native.Nat.{ℕ, zero, suc, _≤_, _<_}
+use Prim.Native.Nat.{ℕ, _≤_, _<_}
 use lib.ListN.{length}
-use Rattle.std.specs.declared.option.Option.{Option}
-use Rattle.std.specs.declared.option.Option.the-variants.{Some, None}
 use Rattle.fault.specs.Numbers.{manager-number}
 use Rattle.task.specs.declared.Access.{Access}
 use Rattle.host.specs.Meaning.{Fixed, Values}
-use Rattle.roll.specs.Steps.{Job}
+use Rattle.order.specs.Steps.{Job}
 use Rattle.roll.specs.Roll.{Roll}
+use Rattle.order.specs.Order.{nth}
 use Rattle.roll.specs.Calls.{Setting, setting, Call, submit, Outcome, refused, succeeded, perform}
 use Rattle.roll.specs.History.{History, after, beginning, works, enters, worked, entered, whole, owed}
-
--- the element at a position of a list, if there is one
-abbrev pub nth : {V : Type 0} → List V → ℕ → Option V
-nth [] p = None
-nth (v ∷ vs) zero = Some v
-nth (v ∷ vs) (suc p) = nth vs p
 
 -- no task is unfinished
 abbrev pub Idle : {V : Type 0} → History V → Type 0

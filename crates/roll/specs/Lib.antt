@@ -1,4 +1,3 @@
-pub mod Steps
 pub mod Roll
 pub mod Tables
 pub mod Calls

@@ -12,7 +12,7 @@ use Rattle.std.specs.declared.option.Option.{Option}
 use Rattle.std.specs.declared.option.Option.the-variants.{Some, None}
 use Rattle.task.specs.declared.Access.{Access}
 use Rattle.task.specs.Access.{conflict}
-use Rattle.roll.specs.Steps.{Step, Job}
+use Rattle.order.specs.Steps.{Step, Job}
 
 -- a task waits for an earlier one, or may start, or runs; a running task has the steps that are left to it, the next one first
 pub data Standing : Type 0 where
