@@ -1,0 +1,3 @@
+mod Split
+mod Keeps
+mod Owed
