@@ -1,3 +1,5 @@
 mod Split
 mod Keeps
 mod Owed
+mod ByCall
+mod Fits
