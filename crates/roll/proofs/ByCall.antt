@@ -19,10 +19,10 @@ given : (line : List ℕ) (p : ℕ × List ℕ) → give-seat line ≡ Some p �
 given [] p e = absurd (none-some p e)
 given (s ∷ free) p e = ap (λ (q : ℕ × List ℕ). q .0 ∷ q .1) (some-is (s, free) p e)
 
--- where neither of two faults is there, the first is not
-pub first-none : (f g : Option ManagerFault) → or-else f g ≡ None → f ≡ None
-first-none None g e = refl
-first-none (Some fault) g e = absurd (none-some fault (sym e))
+-- where the first of two faults is none, both are
+pub both-none : (f g : Option ManagerFault) → or-else f g ≡ None → (f ≡ None) × (g ≡ None)
+both-none None g e = (refl, e)
+both-none (Some fault) g e = absurd (none-some fault (sym e))
 
 module _ {V : Type 0} (m : Setting V) (b : State V) (P : Call → Outcome V → Type 0) (no : (c : Call) (fault : ManagerFault) → P c (refused fault)) where
   abbrev Enters : Type 0
@@ -43,7 +43,7 @@ module _ {V : Type 0} (m : Setting V) (b : State V) (P : Call → Outcome V → 
   by-submit enters name kind xs (Some fault) o q e = no (submit name kind xs) fault
   by-submit enters name kind xs None None q e = no (submit name kind xs) (Table NoFreeSeat)
   by-submit enters name kind xs None (Some p) q e =
-      enters name kind xs (p .0) (p .1) (given (b .free-line) p e) (first-none (lasting-fault (m .tables) (m .host .held) xs) _ q)
+      enters name kind xs (p .0) (p .1) (given (b .free-line) p e) (both-none (lasting-fault (m .tables) (m .host .held) xs) _ q .0)
 
   by-begun : Begins → (s : ℕ) (line : List ℕ) (e : Entry) (st : Standing) → b .ready-line ≡ s ∷ line → find s (b .roll) ≡ Some (stand st e) → P take (begun b s line e st)
   by-begun begins s line e waiting q f = no take LineEmpty

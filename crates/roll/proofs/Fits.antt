@@ -30,6 +30,7 @@ use Rattle.roll.specs.Calls.{State, submit, give-seat, submitted}
 use Rattle.roll.specs.History.{enters}
 use Rattle.roll.specs.Law.{Stalls}
 use Rattle.roll.proofs.Split.{none-some}
+use Rattle.roll.proofs.ByCall.{both-none}
 
 -- a fault that is no stall has a number up to 9
 abbrev Early : Option ManagerFault → Type 0
@@ -62,10 +63,6 @@ pub record Fitting {V : Type 0} (z : Tables) (h : Fixed V) (xs : List Access) : 
   pub some-seat : 1 ≤ z .seats
   pub versions : length xs ≤ z .versions
   pub spread : crowded (λ set. fresh z [] set xs) ≡ None
-
-both-none : (f g : Option ManagerFault) → or-else f g ≡ None → (f ≡ None) × (g ≡ None)
-both-none None g e = (refl, e)
-both-none (Some fault) g e = absurd (none-some fault (sym e))
 
 -- a test that leads to no fault fails
 test-fails : (b : Bool) (fault : ManagerFault) (next : Option ManagerFault) → cond b (Some fault) next ≡ None → b ≡ false

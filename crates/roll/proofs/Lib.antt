@@ -3,3 +3,5 @@ mod Keeps
 mod Owed
 mod ByCall
 mod Fits
+mod Changed
+mod Opens
