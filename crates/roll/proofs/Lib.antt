@@ -5,3 +5,4 @@ mod ByCall
 mod Fits
 mod Changed
 mod Opens
+mod Invariant
