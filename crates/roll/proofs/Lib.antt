@@ -6,3 +6,4 @@ mod Fits
 mod Changed
 mod Opens
 mod Invariant
+pub mod Holds
