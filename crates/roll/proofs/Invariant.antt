@@ -240,7 +240,7 @@ module _ {V : Type 0} (m : Setting V) (w0 : Values V) (h : History V) (i : Kept 
       let w : Values V = done (m .host) (e .job) (bring x q) now in
       let both : (w .aside (e .job .seat) q ≡ now .at (x .address)) × (nth (h .reads (e .job .seat)) q ≡ Some (now .at (x .address))) =
       theorem .reads-agree (m .host) w0 (before s e (bring x q) ss r) (behind s e (bring x q) ss r) now (h .serial) (e .job) x q ss (h .reads (e .job .seat))
-          (clear s e (bring x q) ss r) (may-go s e (bring x q) ss r) in
+      (clear s e (bring x q) ss r) (may-go s e (bring x q) ss r) in
       subst (λ (y : ℕ). nth (h .reads y) q ≡ Some (w .aside y q)) (r .sits-there) (both .1 ∙ ap (λ (v : V). Some v) (sym (both .0)))
 
   -- what a task has read after its next step is as in the one-at-a-time run
