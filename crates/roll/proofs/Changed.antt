@@ -1,39 +1,32 @@
 -- What a change of the standing of one seat's entry, and its removal, leave of what holds of each entry, of the seats, the ready tasks
 -- and the length of the roll. Assumes nothing.
-use mathlib.Core.Path.{_≡_, refl, sym, ap, _∙_, subst}
-use mathlib.Core.Bool.{false}
-use mathlib.Core.List.{List, _∷_, _++_}
+use mathlib.Core.Path.{_≡_, sym, ap, _∙_, subst}
+use mathlib.Core.List.{_∷_, _++_}
 use Prim.Native.Nat.{ℕ, suc, _+_, _≤_}
 use native.Mathlib.Omega.{arith}
 use lib.Dec.{eqb}
 use lib.ListN.{length, length-append}
 use Rattle.std.specs.shelf.Lists.{All}
 use Rattle.std.proofs.shelf.Elements.{all-append}
-use Rattle.std.proofs.shelf.Tests.{eq-eqb, cond-true, cond-false}
 use Rattle.host.specs.Meaning.{update}
+use Rattle.order.proofs.Update.{update-here, update-other}
+use Rattle.order.proofs.Opens.{all-front, all-back, all-both}
 use Rattle.roll.specs.Roll.{Standing, Entry, Roll, stand, change, without}
 use Rattle.roll.specs.Tables.{tally}
-use Rattle.roll.proofs.Split.{all-left, all-right, all-both, Elsewhere, Split, count, count-++, once-itself, seats-of, seats-++, count-none}
+use Rattle.roll.proofs.Split.{Elsewhere, Split, count, count-++, once-itself, seats-of, seats-++, count-none}
 use Rattle.roll.proofs.Keeps.{if-ready, readies, count-readies-++}
 use Rattle.roll.proofs.Owed.{due, Paid}
-
--- a changed function at the argument of the change, and at another one
-pub update-here : {A : Type 0} (f : ℕ → A) (a : ℕ) (v : A) → update f a v a ≡ v
-update-here f a v = cond-true (eqb a a) v (f a) (eq-eqb a a refl)
-
-pub update-there : {A : Type 0} (f : ℕ → A) (a : ℕ) (v : A) (b : ℕ) → eqb b a ≡ false → update f a v b ≡ f b
-update-there f a v b ne = cond-false (eqb b a) v (f b) ne
 
 module _ {s : ℕ} {k : Entry} {roll : Roll} (r : Split s k roll) where
   -- what holds of each entry holds of the one that was found
   pub all-found : (P : Entry → Type 0) → All P roll → P k
-  all-found P h = all-right P (r .pre) (k ∷ r .post) (subst (All P) (r .is) h) .0
+  all-found P h = all-back P (r .pre) (k ∷ r .post) (subst (All P) (r .is) h) .0
 
   -- and of the others
   pub all-without : (P : Entry → Type 0) → All P roll → All P (without s roll)
   all-without P h =
       let g : All P (r .pre ++ (k ∷ r .post)) = subst (All P) (r .is) h in
-      subst (All P) (sym (r .removed)) (all-append P (r .pre) (r .post) (all-left P (r .pre) (k ∷ r .post) g) (all-right P (r .pre) (k ∷ r .post) g .1))
+      subst (All P) (sym (r .removed)) (all-append P (r .pre) (r .post) (all-front P (r .pre) (k ∷ r .post) g) (all-back P (r .pre) (k ∷ r .post) g .1))
 
   -- how often a seat is an entry's: before, with another standing, and after the removal
   pub seats-split : (x : ℕ) → count x (seats-of roll) ≡ count x (seats-of (r .pre)) + (tally (eqb (k .job .seat) x) + count x (seats-of (r .post)))
@@ -81,9 +74,9 @@ module _ {s : ℕ} {k : Entry} {roll : Roll} (r : Split s k roll) where
   pub all-changed : (P Q : Entry → Type 0) (st : Standing) → count s (seats-of roll) ≤ 1 → ((e : Entry) → Elsewhere s e → P e → Q e) → (P k → Q (stand st k)) → All P roll → All Q (change s st roll)
   all-changed P Q st le other f h =
       let g : All P (r .pre ++ (k ∷ r .post)) = subst (All P) (r .is) h in
-      let b : All P (k ∷ r .post) = all-right P (r .pre) (k ∷ r .post) g in
+      let b : All P (k ∷ r .post) = all-back P (r .pre) (k ∷ r .post) g in
       subst (All Q) (sym (r .changed st))
-      (all-append Q (r .pre) (stand st k ∷ r .post) (all-both (Elsewhere s) P Q other (r .pre) (r .others) (all-left P (r .pre) (k ∷ r .post) g))
+      (all-append Q (r .pre) (stand st k ∷ r .post) (all-both (Elsewhere s) P Q other (r .pre) (r .others) (all-front P (r .pre) (k ∷ r .post) g))
       (f (b .0), all-both (Elsewhere s) P Q other (r .post) (post-elsewhere le) (b .1)))
 
   -- where one more take or step has succeeded, and one call less is due
@@ -93,4 +86,4 @@ module _ {s : ℕ} {k : Entry} {roll : Roll} (r : Split s k roll) where
       let more : ℕ → ℕ = update spent s (suc (spent s)) in
       let here : more (k .job .seat) ≡ suc (spent (k .job .seat)) = subst (λ (x : ℕ). more x ≡ suc (spent x)) (sym (r .sits-there)) (update-here spent s (suc (spent s))) in
       all-changed (Paid spent) (Paid more) st le
-      (λ e ne p. omega (arith, p, update-there spent s (suc (spent s)) (e .job .seat) ne)) (λ p. omega (arith, p, less, here)) h
+      (λ e ne p. omega (arith, p, update-other spent s (suc (spent s)) (e .job .seat) ne)) (λ p. omega (arith, p, less, here)) h

@@ -13,9 +13,9 @@ use Rattle.std.specs.declared.option.Option.the-variants.{Some, None}
 use Rattle.std.specs.shelf.Lists.{All}
 use Rattle.std.proofs.shelf.Tests.{true≢false, eq-eqb, ne-eqb, eqb-true, cond-true}
 use Rattle.task.specs.declared.Access.{Access}
-use Rattle.host.specs.Meaning.{Fixed, Values, seats}
-use Rattle.order.specs.Steps.{Step, steps}
-use Rattle.order.specs.Order.{Open, Each, begins, Any-order-is-serial}
+use Rattle.host.specs.Meaning.{Values, seats}
+use Rattle.order.specs.Steps.{steps}
+use Rattle.order.specs.Order.{Each, begins, Any-order-is-serial}
 use Rattle.roll.specs.Roll.{Standing, waiting, ready, running, Entry, Roll, sits, stand, find, change, without, wake}
 use Rattle.roll.specs.Tables.{tally, lasting-fault, stall, by-tables, submit-fault}
 use Rattle.roll.specs.Calls.{Setting, setting, State, Call, submit, take, step, finish, Outcome, give-seat, begun-at, took, stepped-at, finished-at, perform, numbers}
@@ -25,7 +25,7 @@ use Rattle.roll.proofs.Split.{Split, split, count, count-++, once-itself, seat
 use Rattle.roll.proofs.Keeps.{Rightly, if-ready, readies}
 use Rattle.roll.proofs.Owed.{due, dues, dues-++, dues-wake, dues-none, owed-dues, paid-finish}
 use Rattle.roll.proofs.ByCall.{by-call}
-use Rattle.roll.proofs.Fits.{Fitting, fitting, no-fault, enters-if, stalls-none}
+use Rattle.roll.proofs.Fits.{fitting, no-fault, enters-if, stalls-none}
 use Rattle.roll.proofs.Opens.{opens}
 use Rattle.roll.proofs.Invariant.{Low, Kept, kept-submit, kept-take, kept-step, kept-finish}
 

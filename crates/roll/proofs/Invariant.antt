@@ -15,19 +15,21 @@ use Rattle.std.proofs.shelf.Elements.{all-append}
 use Rattle.std.proofs.shelf.Tests.{eqb-true, cases-lt}
 use Rattle.task.specs.declared.Access.{Access}
 use Rattle.task.specs.Access.{Numbered, readers, writers}
-use Rattle.host.specs.Meaning.{Fixed, Values, update, seats}
+use Rattle.host.specs.Meaning.{Values, update, seats}
 use Rattle.one_at_a_time.specs.Alone.{values-read, alone}
 use Rattle.order.specs.Steps.{Step, bring, put, brings, puts, steps, Job, done}
 use Rattle.order.specs.Order.{Open, Each, Out-of-the-way, Reached, enters, goes, leaves, nth, Any-order-is-serial}
+use Rattle.order.proofs.Update.{update-here, update-other}
+use Rattle.order.proofs.Opens.{all-both}
 use Rattle.roll.specs.Roll.{Standing, waiting, ready, running, Entry, Roll, blocked, stand, find, change, without, wake, woken}
 use Rattle.roll.specs.Tables.{tally, lasting-fault}
-use Rattle.roll.specs.Calls.{Setting, State, submit, take, step, finish, succeeded, accepted, begun, said, stepped, finished}
+use Rattle.roll.specs.Calls.{Setting, submit, take, step, finish, succeeded, accepted, begun, said, stepped, finished}
 use Rattle.roll.specs.History.{History, read-more, noted}
-use Rattle.roll.proofs.Split.{all-both, Elsewhere, Split, split, count, count-++, once-itself, seats-of, seats-++, count-none}
+use Rattle.roll.proofs.Split.{Elsewhere, Split, split, count, count-++, once-itself, seats-of, seats-++, count-none}
 use Rattle.roll.proofs.Keeps.{steps-left, waits, Rightly, clear-before, rightly-change, rightly-join, Safely, safely-without, rightly-wake, all-wake, seats-wake, length-wake, if-ready, readies, count-readies-++, count-wake}
 use Rattle.roll.proofs.Owed.{due, length-steps, Paid, paid-wake}
 use Rattle.roll.proofs.Fits.{Fitting, fitting}
-use Rattle.roll.proofs.Changed.{update-here, update-there, all-found, all-without, seats-split, seats-changed, seats-removed, readies-split, readies-changed, readies-removed, length-changed, length-removed, all-changed, paid-changed}
+use Rattle.roll.proofs.Changed.{all-found, all-without, seats-split, seats-changed, seats-removed, readies-split, readies-changed, readies-removed, length-changed, length-removed, all-changed, paid-changed}
 use Rattle.roll.proofs.Opens.{opened, opens, opens-++, opens-wake, opens-elsewhere, opens-clear, opens-apart}
 
 -- the brings among these steps go to the positions p, suc p and so on
@@ -163,7 +165,7 @@ module _ {V : Type 0} (m : Setting V) (w0 : Values V) (h : History V) (i : Kept 
             (enters (opens (h .reads) here) now (h .serial) j (record { few = ok .few; held = ok .held; low = low .0 }) (opens-apart (h .reads) s here elsewhere) (i .reached));
         reads-on = all-append (Reads-on got) here (n ∷ [])
             (all-both (Elsewhere s) (Reads-on (h .got)) (Reads-on got)
-            (λ d ne l. subst (λ (us : List V). In-turn (length us) (steps-left (d .standing) (d .job .accesses))) (sym (update-there (h .got) s [] (d .job .seat) ne)) l)
+            (λ d ne l. subst (λ (us : List V). In-turn (length us) (steps-left (d .standing) (d .job .accesses))) (sym (update-other (h .got) s [] (d .job .seat) ne)) l)
             here elsewhere (i .reads-on)) (
               subst (λ (us : List V). In-turn (length us) (steps-left (first-standing b) xs)) (sym (update-here (h .got) s []))
                   (subst (In-turn 0) (sym (first-left xs b)) (in-turn-brings 0 (readers xs) (writers xs))),
@@ -173,7 +175,7 @@ module _ {V : Type 0} (m : Setting V) (w0 : Values V) (h : History V) (i : Kept 
         apart = λ x. omega (arith, i .apart x, ap (count x) e, ap (count x) (seats-++ here (n ∷ [])), count-++ x (seats-of here) (s ∷ []));
         lined = λ x. omega (arith, i .lined x, first-lined x s (h .state .ready-line) b, count-readies-++ x here (n ∷ []), count-++ x (if-ready (first-standing b) s) []);
         paid = all-append (Paid spent) here (n ∷ [])
-            (all-both (Elsewhere s) (Paid (h .spent)) (Paid spent) (λ d ne p. omega (arith, p, update-there (h .spent) s 0 (d .job .seat) ne)) here elsewhere (i .paid))
+            (all-both (Elsewhere s) (Paid (h .spent)) (Paid spent) (λ d ne p. omega (arith, p, update-other (h .spent) s 0 (d .job .seat) ne)) here elsewhere (i .paid))
             (omega (arith, first-due xs b, length-steps xs, update-here (h .spent) s 0), tt);
         low-free = low .1;
         low-roll = all-append Seated-low here (n ∷ []) (i .low-roll) (low .0, tt);
@@ -274,7 +276,7 @@ module _ {V : Type 0} (m : Setting V) (w0 : Values V) (h : History V) (i : Kept 
         rightly = subst (Rightly []) (sym (r .changed st)) (rightly-change st k refl (r .pre) (r .post) [] (subst (Rightly []) (r .is) (i .rightly)));
         reached = gone-on s e σ ss r;
         reads-on = all-changed r (Reads-on (h .got)) (Reads-on got) st (once s)
-            (λ d ne l. subst (λ (us : List V). In-turn (length us) (steps-left (d .standing) (d .job .accesses))) (sym (update-there (h .got) s new (d .job .seat) ne)) l)
+            (λ d ne l. subst (λ (us : List V). In-turn (length us) (steps-left (d .standing) (d .job .accesses))) (sym (update-other (h .got) s new (d .job .seat) ne)) l)
             (λ l. subst (λ (us : List V). In-turn (length us) ss) (sym (ap got (r .sits-there) ∙ update-here (h .got) s new)) (next-turn s e σ ss r)) (i .reads-on);
         agrees = λ x p lt. subst (λ (us : List V). nth (got x) p ≡ nth us p) (cond-same (eqb x s) (h .reads x))
             (agrees-at (eqb x s) new (h .got x) (h .reads x) (h .reads x)

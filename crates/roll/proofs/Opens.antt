@@ -1,19 +1,16 @@
 -- The unfinished tasks as open ones of an order of steps. Assumes nothing.
-use mathlib.Core.Path.{_≡_, refl, sym, ap, ap₂, _∙_, subst}
-use mathlib.Core.Bool.{Bool, false}
+use mathlib.Core.Path.{_≡_, refl, ap, ap₂}
 use mathlib.Core.List.{List, [], _∷_, _++_}
 use Prim.Native.Nat.{ℕ}
-use lib.Dec.{eqb}
 use Rattle.std.specs.shelf.Lists.{All}
 use Rattle.std.proofs.shelf.Tests.{eqb-false}
-use Rattle.task.specs.declared.Access.{Access}
 use Rattle.host.specs.Meaning.{update}
 use Rattle.order.specs.Steps.{Step, Job}
 use Rattle.order.specs.Order.{Open, Each, Out-of-the-way}
+use Rattle.order.proofs.Update.{update-other}
 use Rattle.roll.specs.Roll.{Entry, Roll, blocked, wake}
 use Rattle.roll.proofs.Split.{Elsewhere}
 use Rattle.roll.proofs.Keeps.{steps-left, Clear, left-rouse}
-use Rattle.roll.proofs.Changed.{update-there}
 
 module _ {V : Type 0} where
   -- a task with the steps that are left to it, and with the list that its seat's task reads in the one-at-a-time run
@@ -40,7 +37,7 @@ module _ {V : Type 0} where
   opens-elsewhere reads s vs [] h = refl
   opens-elsewhere reads s vs (e ∷ es) h =
       let o : List V → Open V = λ ws. record { job = e .job; left = steps-left (e .standing) (e .job .accesses); reads = ws } in
-      ap₂ (λ (ws : List V) (os : List (Open V)). o ws ∷ os) (update-there reads s vs (e .job .seat) (h .0)) (opens-elsewhere reads s vs es (h .1))
+      ap₂ (λ (ws : List V) (os : List (Open V)). o ws ∷ os) (update-other reads s vs (e .job .seat) (h .0)) (opens-elsewhere reads s vs es (h .1))
 
   -- tasks that do not conflict with a task are out of its way
   pub opens-clear : (reads : ℕ → List V) (j : Job) (roll : Roll) → All (Clear (j .accesses)) roll → Each (Out-of-the-way j) (opens reads roll)

@@ -1,5 +1,5 @@
--- What the entry of a seat makes of the roll: the entries before it, the entry, and those behind it; what holds of each entry of a
--- list; and how often a number stands in a list. Assumes nothing.
+-- What the entry of a seat makes of the roll: the entries before it, the entry, and those behind it; and how often a number stands in
+-- a list. Assumes nothing.
 use mathlib.Core.Path.{_≡_, refl, sym, ap, _∙_, subst}
 use mathlib.Core.Bool.{Bool, true, false, cond}
 use mathlib.Core.List.{List, [], _∷_, _++_}
@@ -12,20 +12,6 @@ use Rattle.std.specs.shelf.Lists.{All}
 use Rattle.std.proofs.shelf.Tests.{eqb-true, eq-eqb}
 use Rattle.roll.specs.Roll.{Standing, Entry, Roll, sits, stand, find, change, without}
 use Rattle.roll.specs.Tables.{tally}
-
--- what holds of each element of two lists, one behind the other, holds of each of the first, and of each of the second
-pub all-left : {A : Type 0} (P : A → Type 0) (xs ys : List A) → All P (xs ++ ys) → All P xs
-all-left P [] ys h = tt
-all-left P (x ∷ xs) ys h = (h .0, all-left P xs ys (h .1))
-
-pub all-right : {A : Type 0} (P : A → Type 0) (xs ys : List A) → All P (xs ++ ys) → All P ys
-all-right P [] ys h = h
-all-right P (x ∷ xs) ys h = all-right P xs ys (h .1)
-
--- what follows from two properties holds where both do
-pub all-both : {A : Type 0} (P Q R : A → Type 0) → ((x : A) → P x → Q x → R x) → (xs : List A) → All P xs → All Q xs → All R xs
-all-both P Q R f [] h k = tt
-all-both P Q R f (x ∷ xs) h k = (f x (h .0) (k .0), all-both P Q R f xs (h .1) (k .1))
 
 -- an entry of another seat
 abbrev pub Elsewhere : ℕ → Entry → Type 0
