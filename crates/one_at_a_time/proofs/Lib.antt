@@ -2,5 +2,5 @@ mod Empty
 mod Numbering
 mod Bringing
 mod Putting
-mod Whole
+pub mod Whole
 mod Runs
