@@ -15,7 +15,12 @@ use task::MAX_ACCESSES;
 use task::Task;
 
 // The addresses, of which there are n.
-pub(crate) fn addresses(bytes: &[u8], place: &mut Place, start: usize, n: usize) -> Result<[u64; MAX_ACCESSES], StreamFault>
+pub(crate) fn addresses(
+    bytes: &[u8],
+    place: &mut Place,
+    start: usize,
+    n: usize,
+) -> Result<[u64; MAX_ACCESSES], StreamFault>
     requires { ⌜ (start ≤ now place .at) × (now place .at ≤ length (now bytes)) × (n ≤ 15) ⌝ }
     ensures { λ r. ⌜ List-read (addresses n) (take n) (8 * n) (now (bytes .entry)) start (now (place .entry) .at) r (now (place .exit) .at) ⌝ }
 {
@@ -27,7 +32,13 @@ pub(crate) fn addresses(bytes: &[u8], place: &mut Place, start: usize, n: usize)
 }
 
 // A direction for each of the first n addresses, each pair of the two pushed to the task.
-pub(crate) fn directions(bytes: &[u8], place: &mut Place, start: usize, list: &[u64], mut task: Task) -> Result<Task, StreamFault>
+pub(crate) fn directions(
+    bytes: &[u8],
+    place: &mut Place,
+    start: usize,
+    list: &[u64],
+    mut task: Task,
+) -> Result<Task, StreamFault>
     requires { ⌜ (start ≤ now place .at) × (now place .at ≤ length (now bytes)) × (length (now list) ≤ 15) × (accesses-of task ≡ []) ⌝ }
     ensures kept { λ r. ⌜ Cases r (λ t. (t .name ≡ task .name) × (t .kind ≡ task .kind) × (length (accesses-of t) ≡ length (now (list .entry)))) (λ _. Unit {0}) ⌝ }
     ensures read { λ r. ⌜ List-read (directions (now (list .entry))) accesses-of (length (now (list .entry))) (now (bytes .entry)) start (now (place .entry) .at) r (now (place .exit) .at) ⌝ }

@@ -44,7 +44,14 @@ fn bring_one<H: ReadBack>(host: &mut H, address: u64, position: u8, read: &mut V
 }
 
 // Puts an address from the seat's first n positions, and notes the value.
-fn put_one<H: ReadBack>(host: &mut H, kind: u32, access: u8, n: u8, address: u64, wrote: &mut Vec<H::Value>)
+fn put_one<H: ReadBack>(
+    host: &mut H,
+    kind: u32,
+    access: u8,
+    n: u8,
+    address: u64,
+    wrote: &mut Vec<H::Value>,
+)
     requires most { ⌜ n ≤ 15 ⌝ }
     requires held { ⌜ H·Host .fixed (now host) .held address ≡ true ⌝ }
     requires room { ⌜ vec-len (now wrote) < vec-cap (now wrote) ⌝ }
@@ -83,7 +90,13 @@ fn bring_all<H: ReadBack>(host: &mut H, accesses: &[Access], read: &mut Vec<H::V
 }
 
 // Puts every writing access from the seat's first n positions, and notes each value.
-fn put_all<H: ReadBack>(host: &mut H, kind: u32, n: u8, accesses: &[Access], wrote: &mut Vec<H::Value>)
+fn put_all<H: ReadBack>(
+    host: &mut H,
+    kind: u32,
+    n: u8,
+    accesses: &[Access],
+    wrote: &mut Vec<H::Value>,
+)
     requires few { ⌜ length (now accesses) ≤ 15 ⌝ }
     requires most { ⌜ n ≤ 15 ⌝ }
     requires held { ⌜ All-held (H·Host .fixed (now host)) (now accesses) ⌝ }
@@ -103,7 +116,11 @@ fn put_all<H: ReadBack>(host: &mut H, kind: u32, n: u8, accesses: &[Access], wro
 
 // Does the task alone, on seat 0, and answers what it read and wrote. A task that is refused, or for which there is no memory,
 // changes nothing.
-pub fn perform<H: ReadBack>(heap: Global, host: &mut H, task: Task) -> Result<TaskRun<H::Value>, End>
+pub fn perform<H: ReadBack>(
+    heap: Global,
+    host: &mut H,
+    task: Task,
+) -> Result<TaskRun<H::Value>, End>
     ensures fixed { λ _. ⌜ H·Host .fixed (now (host .exit)) ≡ H·Host .fixed (now (host .entry)) ⌝ }
     ensures cases { λ r. ⌜ Cases r (λ t. Ran-alone (H·Host .fixed (now (host .entry))) task t (H·Host .values (now (host .entry))) (H·Host .values (now (host .exit)))) (λ e. (now (host .exit) ≡ now (host .entry)) × Not-run (H·Host .fixed (now (host .entry))) task e) ⌝ }
 {
