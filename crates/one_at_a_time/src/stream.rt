@@ -39,6 +39,7 @@ pub fn run_stream<H: ReadBack>(heap: Global, host: &mut H, bytes: &[u8]) -> Jour
 }
 
 // Does the message at the place, which moves behind it, and notes what was done; or says why not, and the place stays.
+// Memory for the note is reserved first, so that a message that is done can always be noted.
 fn run_next<H: ReadBack>(
     heap: Global,
     host: &mut H,
