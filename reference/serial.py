@@ -4,7 +4,7 @@
   serial.py < MESSAGES         prints what `serial` prints
   serial.py --cases < CASES    prints what `serial_cases` prints: a case a line, as `label times hex`
 
-It shares no code with the crates and follows docs/MESSAGES.md, docs/REFUSALS.md and docs/HOSTS.md.
+It shares no code with the crates and follows docs/MODEL.md, docs/MESSAGES.md, docs/REFUSALS.md and docs/HOSTS.md.
 """
 import sys
 

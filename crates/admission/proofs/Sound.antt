@@ -14,7 +14,7 @@ use Rattle.std.specs.declared.result.Result.the-variants.{Ok, Err}
 use Rattle.fault.specs.declared.ManagerFault.{ManagerFault}
 use Rattle.fault.specs.declared.ManagerFault.the-variants.{TooManyAccesses, RepeatedAddress, NotHeld}
 use Rattle.task.specs.declared.Access.{Access}
-use Rattle.task.specs.Task.{max-accesses}
+use Rattle.task.specs.Limits.{max-accesses}
 use Rattle.admission.specs.Admission.{first-from, address-at, repeated, not-held, fault-at, task-fault, unless}
 
 -- a test that holds at none of some numbers fails at the first of them, and holds at none of the others

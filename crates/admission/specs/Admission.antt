@@ -19,7 +19,7 @@ use Rattle.fault.specs.declared.ManagerFault.the-variants.{TooManyAccesses, Rep
 use Rattle.task.specs.declared.Access.{Access}
 use Rattle.task.specs.declared.Direction.the-variants.{In}
 use Rattle.task.specs.Access.{some-access}
-use Rattle.task.specs.Task.{max-accesses}
+use Rattle.task.specs.Limits.{max-accesses}
 
 -- the first of the n numbers from i on at which the test holds
 abbrev pub first-from : (ℕ → Bool) → ℕ → ℕ → Option ℕ

@@ -2,6 +2,7 @@
 ghost use mathlib.Core.Path.{_≡_};
 ghost use Prim.Native.Nat.{_≤_};
 ghost use lib.ListN.{length};
+ghost use Rattle.task.specs.Limits.{max-accesses};
 ghost use Rattle.admission.specs.Admission.{occurs, repeated, not-held, task-fault, unless};
 use fault::ManagerFault;
 use host::Host;
@@ -27,7 +28,7 @@ pub fn check<H: Host>(host: &H, accesses: &[Access]) -> Result<(), ManagerFault>
 
 // The first access whose address occurs earlier in the task.
 fn first_repeated(accesses: &[Access]) -> Option<u8>
-    requires { ⌜ length (now accesses) ≤ 15 ⌝ }
+    requires { ⌜ length (now accesses) ≤ max-accesses ⌝ }
     ensures { λ r. ⌜ r ≡ repeated (now (accesses .entry)) ⌝ }
 {
     for i in 0..accesses.len() {
@@ -52,7 +53,7 @@ fn occurs(address: u64, accesses: &[Access]) -> bool
 
 // The first access whose address the host does not hold.
 fn first_not_held<H: Host>(host: &H, accesses: &[Access]) -> Option<u8>
-    requires { ⌜ length (now accesses) ≤ 15 ⌝ }
+    requires { ⌜ length (now accesses) ≤ max-accesses ⌝ }
     ensures { λ r. ⌜ r ≡ not-held (H·Host .fixed (now (host .entry)) .held) (now (accesses .entry)) ⌝ }
 {
     for i in 0..accesses.len() {

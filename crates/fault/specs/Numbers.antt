@@ -39,7 +39,7 @@ table-number NoFreeSeat = 10
 table-number (TooFewVersions missing) = 11
 table-number (SetFull set) = 12
 
--- where it is: how many versions are missing for 11, the lowest full set for 12, and 0 for the others
+-- where it is: how many versions are missing for 11, the lowest set without room for 12, and 0 for the others
 abbrev pub table-place : TableFault → ℕ
 table-place NeverFits = 0
 table-place NoFreeSeat = 0

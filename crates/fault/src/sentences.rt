@@ -49,7 +49,7 @@ pub impl fmt::Display for TableFault as TableFaultDisplay {
             ),
             TableFault::TooFewVersions { missing } => write!(
                 f,
-                "{missing} versions are missing: try again after a task has finished"
+                "too few versions are free, {missing} more are needed: try again after a task has finished"
             ),
             TableFault::SetFull { set } => write!(
                 f,

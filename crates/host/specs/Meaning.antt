@@ -10,7 +10,7 @@ use mathlib.Core.List.{List, [], _∷_}
 use Prim.Native.Nat.{ℕ, zero, suc}
 use lib.Dec.{eqb, leb, ltb}
 
--- how many seats have values held aside, and how many positions each of them has
+-- how many seats have values held aside, and how many positions each of them has: one for each access that a task may have
 abbrev pub seats : ℕ
 seats = 256
 

@@ -11,7 +11,7 @@ pub use seat_values::SeatValues;
 // How many seats have values held aside.
 pub const SEATS: usize = 256;
 
-// How many positions each seat has.
+// How many positions each seat has: one for each access that a task may have.
 pub const POSITIONS: usize = 15;
 
 // A host holds some addresses with a value at each, and for each seat and position a value held aside.

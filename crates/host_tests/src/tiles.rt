@@ -10,6 +10,7 @@ use tile_host::tile_rule;
 const DARK: Tile = Tile {
     channels: [1, 2, 3, 65_535],
 };
+
 const LIGHT: Tile = Tile {
     channels: [4, 2, 0, 65_534],
 };

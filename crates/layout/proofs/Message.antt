@@ -9,7 +9,7 @@ use Rattle.std.proofs.shelf.Tests.{ltb-false, le-ltb, eqb-true, cond-false, con
 use Rattle.std.specs.declared.result.Result.the-variants.{Ok, Err}
 use Rattle.fault.specs.declared.StreamFault.the-variants.{NoByteLeft, UnknownVersion, UnknownKind, BeyondEnd, TooMany}
 use Rattle.task.specs.declared.Access.{Access}
-use Rattle.task.specs.Task.{max-accesses}
+use Rattle.task.specs.Limits.{max-accesses}
 use Rattle.layout.specs.Layout.{Contents, submits, finishes, version, submission-kind, notice-kind, little, address-bytes, direction-bytes, layout, Fits}
 use Rattle.layout.specs.Reading.{Read, number, addresses, directions, submission-of, submission, notice, kinded, read}
 use Rattle.layout.specs.Agreement.{Bytes}

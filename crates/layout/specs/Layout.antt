@@ -9,7 +9,7 @@ use lib.ListN.{length}
 use Rattle.task.specs.declared.Access.{Access}
 use Rattle.task.specs.declared.Direction.{Direction}
 use Rattle.task.specs.declared.Direction.the-variants.{In, Out, InOut}
-use Rattle.task.specs.Task.{max-accesses}
+use Rattle.task.specs.Limits.{max-accesses}
 
 -- what a message says: a task is submitted, by its name, its kind of work and its accesses; or a seat is finished
 pub data Contents : Type 0 where

@@ -17,7 +17,7 @@ use Rattle.fault.specs.declared.StreamFault.the-variants.{NoByteLeft, UnknownVe
 use Rattle.task.specs.declared.Access.{Access}
 use Rattle.task.specs.declared.Direction.{Direction}
 use Rattle.task.specs.declared.Direction.the-variants.{In, Out, InOut}
-use Rattle.task.specs.Task.{max-accesses}
+use Rattle.task.specs.Limits.{max-accesses}
 use Rattle.layout.specs.Layout.{Contents, submits, finishes, version, submission-kind, notice-kind}
 
 -- what reading gives: a value with the bytes behind it, or a fault

@@ -57,7 +57,11 @@ pub(crate) fn number8(bytes: &[u8], place: &mut Place, start: usize) -> Result<u
 }
 
 // A direction.
-pub(crate) fn direction(bytes: &[u8], place: &mut Place, start: usize) -> Result<Direction, StreamFault>
+pub(crate) fn direction(
+    bytes: &[u8],
+    place: &mut Place,
+    start: usize,
+) -> Result<Direction, StreamFault>
     requires { ⌜ (start ≤ now place .at) × (now place .at ≤ length (now bytes)) ⌝ }
     ensures { λ r. ⌜ Field-read direction-at 1 (now (bytes .entry)) start (now (place .entry) .at) r (now (place .exit) .at) ⌝ }
 {

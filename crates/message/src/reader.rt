@@ -20,6 +20,7 @@ const VERSION: u8 = 2;
 
 // The second byte of a submission, and of a finish notice.
 const SUBMISSION: u8 = 1;
+
 const NOTICE: u8 = 2;
 
 // A run of bytes, and the place of the next message in it.

@@ -54,9 +54,9 @@ bring-more {V} w0 all left x n n′ items more w w′ on grown moved b =
     record {
       count = let c : n + suc (length left) ≡ length all = b .count in omega arith;
       read =
-        ap (λ (ys : List V). ys ++ rest) (grown ∙ ap (λ (z : V). items ++ (z ∷ [])) (ap (λ (f : ℕ → V). f (x .address)) same)) ∙ append-assoc items (v ∷ []) rest ∙ b .read;
+          ap (λ (ys : List V). ys ++ rest) (grown ∙ ap (λ (z : V). items ++ (z ∷ [])) (ap (λ (f : ℕ → V). f (x .address)) same)) ∙ append-assoc items (v ∷ []) rest ∙ b .read;
       values =
-        ap (bringing n′ rest) place ∙ ap (λ (m : ℕ). bringing m rest (record { at = w .at; aside = update (w .aside) 0 (update (w .aside 0) n v) })) on
+          ap (bringing n′ rest) place ∙ ap (λ (m : ℕ). bringing m rest (record { at = w .at; aside = update (w .aside) 0 (update (w .aside 0) n v) })) on
           ∙ ap (λ (f : ℕ → ℕ → V). record { at = w .at; aside = f }) (update-twice (w .aside) 0 (update (w .aside 0) n v) (filled (n + 1) rest (update (w .aside 0) n v)))
           ∙ ap (λ (m : ℕ). record { at = w .at; aside = update (w .aside) 0 (filled m rest (update (w .aside 0) n v)) }) (add-one n) ∙ b .values;
     }

@@ -29,10 +29,10 @@ put-more {V} h kind n w0 all left x items more w w′ grown moved b =
     let same : row 0 n (w .aside 0) ≡ vs = ap (λ (v : Values V). row 0 n (v .aside 0)) (b .values) in
     record {
       wrote =
-        ap (λ (ys : List V). ys ++ values-of-work h kind vs left) (grown ∙ ap (λ (l : List V). items ++ (h .rule kind (x .number) l ∷ [])) same)
+          ap (λ (ys : List V). ys ++ values-of-work h kind vs left) (grown ∙ ap (λ (l : List V). items ++ (h .rule kind (x .number) l ∷ [])) same)
           ∙ append-assoc items (h .rule kind (x .number) vs ∷ []) (values-of-work h kind vs left) ∙ b .wrote;
       values =
-        ap (putting h kind vs left) (moved ∙ ap (λ (l : List V). record { at = update (w .at) (x .address) (h .rule kind (x .number) l); aside = w .aside }) same) ∙ b .values;
+          ap (putting h kind vs left) (moved ∙ ap (λ (l : List V). record { at = update (w .at) (x .address) (h .rule kind (x .number) l); aside = w .aside }) same) ∙ b .values;
     }
 
 -- nothing is put

@@ -69,12 +69,12 @@ progress-more {V} h bytes place place′ ls ls′ w0 w w′ p n =
     n .values ∙ ap (after-all h m) (p .all-values) ∙ sym (run-push h ms m w0) ∙ ap (λ (l : List Contents). run-all h l w0) (sym more) in
     record {
       laid =
-        p .laid ∙ ap (λ (bs : List ℕ). stream ms ++ bs) (n .laid) ∙ sym (append-assoc (stream ms) (layout m) (drop place′ bytes))
+          p .laid ∙ ap (λ (bs : List ℕ). stream ms ++ bs) (n .laid) ∙ sym (append-assoc (stream ms) (layout m) (drop place′ bytes))
           ∙ ap (λ (bs : List ℕ). bs ++ drop place′ bytes) (sym bytes-more);
       moved =
-        n .moved ∙ ap (λ (k : ℕ). k + length (layout m)) (p .moved) ∙ sym (length-append (stream ms) (layout m)) ∙ ap length (sym bytes-more);
+          n .moved ∙ ap (λ (k : ℕ). k + length (layout m)) (p .moved) ∙ sym (length-append (stream ms) (layout m)) ∙ ap length (sym bytes-more);
       lines =
-        n .lines ∙ ap (λ (k : List (Line V)). k ++ (line h m (w .at) ∷ [])) (p .lines) ∙ ap (λ (at : ℕ → V). journal h ms (w0 .at) ++ (line h m at ∷ [])) (p .values)
+          n .lines ∙ ap (λ (k : List (Line V)). k ++ (line h m (w .at) ∷ [])) (p .lines) ∙ ap (λ (at : ℕ → V). journal h ms (w0 .at) ++ (line h m at ∷ [])) (p .values)
           ∙ sym (journal-push h ms m (w0 .at)) ∙ ap (λ (l : List Contents). journal h l (w0 .at)) (sym more);
       values = ap (λ (v : Values V). v .at) all ∙ run-at h (messages ls′) w0;
       all-values = all;

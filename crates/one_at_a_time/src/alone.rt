@@ -7,8 +7,9 @@ ghost use lib.ListN.{length};
 ghost use Rattle.std.specs.Of.Vec.{vec-items, vec-len, vec-cap};
 ghost use Rattle.std.specs.Results.{Cases};
 ghost use Rattle.task.specs.Access.{readers, writers};
+ghost use Rattle.task.specs.Limits.{max-accesses};
 ghost use Rattle.task.specs.Task.{accesses-of};
-ghost use Rattle.host.specs.Meaning.{row, copied, worked};
+ghost use Rattle.host.specs.Meaning.{positions, row, copied, worked};
 ghost use Rattle.one_at_a_time.specs.Alone.{values-read, values-written, done-alone, All-held, brought-alone, put-alone};
 ghost use Rattle.one_at_a_time.specs.Ran.{Ran-alone, Not-run};
 use crate::journal::End;
@@ -28,7 +29,7 @@ const SEAT: u16 = 0;
 
 // Brings an address to a position of the seat, and notes the value.
 fn bring_one<H: ReadBack>(host: &mut H, address: u64, position: u8, read: &mut Vec<H::Value>)
-    requires position { ⌜ position < 15 ⌝ }
+    requires position { ⌜ position < positions ⌝ }
     requires held { ⌜ H·Host .fixed (now host) .held address ≡ true ⌝ }
     requires room { ⌜ vec-len (now read) < vec-cap (now read) ⌝ }
     ensures read { λ _. ⌜ vec-items (now (read .exit)) ≡ vec-items (now (read .entry)) ++ (H·Host .values (now (host .entry)) .at address ∷ []) ⌝ }
@@ -44,8 +45,15 @@ fn bring_one<H: ReadBack>(host: &mut H, address: u64, position: u8, read: &mut V
 }
 
 // Puts an address from the seat's first n positions, and notes the value.
-fn put_one<H: ReadBack>(host: &mut H, kind: u32, access: u8, n: u8, address: u64, wrote: &mut Vec<H::Value>)
-    requires most { ⌜ n ≤ 15 ⌝ }
+fn put_one<H: ReadBack>(
+    host: &mut H,
+    kind: u32,
+    access: u8,
+    n: u8,
+    address: u64,
+    wrote: &mut Vec<H::Value>,
+)
+    requires most { ⌜ n ≤ positions ⌝ }
     requires held { ⌜ H·Host .fixed (now host) .held address ≡ true ⌝ }
     requires room { ⌜ vec-len (now wrote) < vec-cap (now wrote) ⌝ }
     ensures wrote { λ _. ⌜ vec-items (now (wrote .exit)) ≡ vec-items (now (wrote .entry)) ++ (H·Host .fixed (now (host .entry)) .rule kind access (row 0 n (H·Host .values (now (host .entry)) .aside 0)) ∷ []) ⌝ }
@@ -62,12 +70,12 @@ fn put_one<H: ReadBack>(host: &mut H, kind: u32, access: u8, n: u8, address: u64
 
 // Brings every reading access to the seat's positions from 0 on, and notes each value. Answers how many there are.
 fn bring_all<H: ReadBack>(host: &mut H, accesses: &[Access], read: &mut Vec<H::Value>) -> u8
-    requires few { ⌜ length (now accesses) ≤ 15 ⌝ }
+    requires few { ⌜ length (now accesses) ≤ max-accesses ⌝ }
     requires held { ⌜ All-held (H·Host .fixed (now host)) (now accesses) ⌝ }
     requires empty { ⌜ vec-len (now read) ≡ 0 ⌝ }
-    requires room { ⌜ 15 ≤ vec-cap (now read) ⌝ }
+    requires room { ⌜ max-accesses ≤ vec-cap (now read) ⌝ }
     ensures count { λ r. ⌜ r ≡ length (readers (now (accesses .entry))) ⌝ }
-    ensures most { λ r. ⌜ r ≤ 15 ⌝ }
+    ensures most { λ r. ⌜ r ≤ positions ⌝ }
     ensures read { λ _. ⌜ vec-items (now (read .exit)) ≡ values-read (H·Host .values (now (host .entry)) .at) (now (accesses .entry)) ⌝ }
     ensures fixed { λ _. ⌜ H·Host .fixed (now (host .exit)) ≡ H·Host .fixed (now (host .entry)) ⌝ }
     ensures values { λ _. ⌜ H·Host .values (now (host .exit)) ≡ brought-alone 0 (values-read (H·Host .values (now (host .entry)) .at) (now (accesses .entry))) (H·Host .values (now (host .entry))) ⌝ }
@@ -83,12 +91,18 @@ fn bring_all<H: ReadBack>(host: &mut H, accesses: &[Access], read: &mut Vec<H::V
 }
 
 // Puts every writing access from the seat's first n positions, and notes each value.
-fn put_all<H: ReadBack>(host: &mut H, kind: u32, n: u8, accesses: &[Access], wrote: &mut Vec<H::Value>)
-    requires few { ⌜ length (now accesses) ≤ 15 ⌝ }
-    requires most { ⌜ n ≤ 15 ⌝ }
+fn put_all<H: ReadBack>(
+    host: &mut H,
+    kind: u32,
+    n: u8,
+    accesses: &[Access],
+    wrote: &mut Vec<H::Value>,
+)
+    requires few { ⌜ length (now accesses) ≤ max-accesses ⌝ }
+    requires most { ⌜ n ≤ positions ⌝ }
     requires held { ⌜ All-held (H·Host .fixed (now host)) (now accesses) ⌝ }
     requires empty { ⌜ vec-len (now wrote) ≡ 0 ⌝ }
-    requires room { ⌜ 15 ≤ vec-cap (now wrote) ⌝ }
+    requires room { ⌜ max-accesses ≤ vec-cap (now wrote) ⌝ }
     ensures wrote { λ _. ⌜ vec-items (now (wrote .exit)) ≡ values-written (H·Host .fixed (now (host .entry))) kind (row 0 n (H·Host .values (now (host .entry)) .aside 0)) (now (accesses .entry)) ⌝ }
     ensures fixed { λ _. ⌜ H·Host .fixed (now (host .exit)) ≡ H·Host .fixed (now (host .entry)) ⌝ }
     ensures values { λ _. ⌜ H·Host .values (now (host .exit)) ≡ put-alone (H·Host .fixed (now (host .entry))) kind (row 0 n (H·Host .values (now (host .entry)) .aside 0)) (now (accesses .entry)) (H·Host .values (now (host .entry))) ⌝ }
@@ -103,7 +117,11 @@ fn put_all<H: ReadBack>(host: &mut H, kind: u32, n: u8, accesses: &[Access], wro
 
 // Does the task alone, on seat 0, and answers what it read and wrote. A task that is refused, or for which there is no memory,
 // changes nothing.
-pub fn perform<H: ReadBack>(heap: Global, host: &mut H, task: Task) -> Result<TaskRun<H::Value>, End>
+pub fn perform<H: ReadBack>(
+    heap: Global,
+    host: &mut H,
+    task: Task,
+) -> Result<TaskRun<H::Value>, End>
     ensures fixed { λ _. ⌜ H·Host .fixed (now (host .exit)) ≡ H·Host .fixed (now (host .entry)) ⌝ }
     ensures cases { λ r. ⌜ Cases r (λ t. Ran-alone (H·Host .fixed (now (host .entry))) task t (H·Host .values (now (host .entry))) (H·Host .values (now (host .exit)))) (λ e. (now (host .exit) ≡ now (host .entry)) × Not-run (H·Host .fixed (now (host .entry))) task e) ⌝ }
 {

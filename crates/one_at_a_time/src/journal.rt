@@ -36,7 +36,7 @@ pub enum End {
     OutOfMemory,
 }
 
-// What was done at each message, the place of the first byte of the message that the run came to its end at, and why.
+// What was done at each message, and where and why the run came to its end: the place right behind the last message that was done.
 #[derive(Drop)]
 pub struct Journal<V: Copy> {
     pub entries: Vec<Entry<V>>,

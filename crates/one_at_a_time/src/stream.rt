@@ -39,7 +39,14 @@ pub fn run_stream<H: ReadBack>(heap: Global, host: &mut H, bytes: &[u8]) -> Jour
 }
 
 // Does the message at the place, which moves behind it, and notes what was done; or says why not, and the place stays.
-fn run_next<H: ReadBack>(heap: Global, host: &mut H, bytes: &[u8], place: &mut Place, entries: &mut Vec<Entry<H::Value>>) -> Result<(), End>
+// Memory for the note is reserved first, so that a message that is done can always be noted.
+fn run_next<H: ReadBack>(
+    heap: Global,
+    host: &mut H,
+    bytes: &[u8],
+    place: &mut Place,
+    entries: &mut Vec<Entry<H::Value>>,
+) -> Result<(), End>
     ensures fixed { λ _. ⌜ H·Host .fixed (now (host .exit)) ≡ H·Host .fixed (now (host .entry)) ⌝ }
     ensures cases { λ r. ⌜ Cases r (λ _. Next (H·Host .fixed (now (host .entry))) (now (bytes .entry)) (now (place .entry) .at) (now (place .exit) .at) (lines-of (vec-items (now (entries .entry)))) (lines-of (vec-items (now (entries .exit)))) (H·Host .values (now (host .entry))) (H·Host .values (now (host .exit)))) (λ e. Ended (H·Host .fixed (now (host .entry))) (now (bytes .entry)) (now (place .entry) .at) e × (now (place .exit) .at ≡ now (place .entry) .at) × (vec-items (now (entries .exit)) ≡ vec-items (now (entries .entry))) × (H·Host .values (now (host .exit)) ≡ H·Host .values (now (host .entry)))) ⌝ }
 {
@@ -58,7 +65,11 @@ fn run_next<H: ReadBack>(heap: Global, host: &mut H, bytes: &[u8], place: &mut P
 }
 
 // Does what the message asks for: the task of a submission, alone, and nothing at a finish notice.
-fn entry_of<H: ReadBack>(heap: Global, host: &mut H, message: Message) -> Result<Entry<H::Value>, End>
+fn entry_of<H: ReadBack>(
+    heap: Global,
+    host: &mut H,
+    message: Message,
+) -> Result<Entry<H::Value>, End>
     ensures fixed { λ _. ⌜ H·Host .fixed (now (host .exit)) ≡ H·Host .fixed (now (host .entry)) ⌝ }
     ensures cases { λ r. ⌜ Cases r (λ e. (line-of e ≡ line (H·Host .fixed (now (host .entry))) (contents-of message) (H·Host .values (now (host .entry)) .at)) × (H·Host .values (now (host .exit)) ≡ after-all (H·Host .fixed (now (host .entry))) (contents-of message) (H·Host .values (now (host .entry))))) (λ e. Not-taken (H·Host .fixed (now (host .entry))) (contents-of message) e × (H·Host .values (now (host .exit)) ≡ H·Host .values (now (host .entry)))) ⌝ }
 {

@@ -14,7 +14,9 @@ fn run_cases(rt: &LibcRuntime) -> Result<(), AnyError> {
         let line = line?;
         let mut words = line.as_str().split_whitespace();
         let label = words.next().ok_or("a case has a label")?;
-        let times = words.next().ok_or("a case says how often its bytes are repeated")?;
+        let times = words
+            .next()
+            .ok_or("a case says how often its bytes are repeated")?;
         let text = words.next().ok_or("a case has bytes, or -")?;
         println!(rt, "== {label}")?;
         run_case(rt, times.parse::<u32>()?, text)?;
@@ -33,7 +35,7 @@ fn run_case(rt: &LibcRuntime, times: u32, text: &str) -> Result<(), AnyError> {
     Ok(())
 }
 
-// The bytes that pairs of hexadecimal digits write; another character is passed over.
+// The bytes that pairs of hexadecimal digits write. Another character, and a last digit without a second, is passed over.
 fn from_hex(heap: Global, text: &str) -> Result<Vec<u8>, AllocError> {
     let mut bytes = Vec::new(heap);
     let mut high = None;
@@ -41,6 +43,7 @@ fn from_hex(heap: Global, text: &str) -> Result<Vec<u8>, AllocError> {
         let digit = match b {
             b'0'..=b'9' => b - b'0',
             b'a'..=b'f' => b - b'a' + 10,
+            b'A'..=b'F' => b - b'A' + 10,
             _ => continue,
         };
         match high {

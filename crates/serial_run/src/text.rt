@@ -17,7 +17,10 @@ pub impl fmt::Display for Report as ReportDisplay {
             write_entry(f, entry)?;
         }
         if self.cut {
-            writeln!(f, "the input is longer than {MAX_INPUT} bytes: the rest was not read")?;
+            writeln!(
+                f,
+                "the input is longer than {MAX_INPUT} bytes: the rest was not read"
+            )?;
         }
         write_end(f, self.journal.place, &self.journal.end)?;
         write_stamps(f, self)
@@ -29,7 +32,10 @@ fn write_entry<W: fmt::Write>(f: &mut fmt::Formatter<W>, entry: &Entry<u64>) -> 
     match entry {
         Entry::Ran(run) => write_task(f, run),
         Entry::PassedOver(seat) => {
-            writeln!(f, "notice for seat {seat}: passed over, since a task that runs alone is finished at once")
+            writeln!(
+                f,
+                "notice for seat {seat}: passed over, since a task that runs alone is finished at once"
+            )
         }
     }
 }
@@ -62,7 +68,11 @@ fn write_task<W: fmt::Write>(f: &mut fmt::Formatter<W>, run: &TaskRun<u64>) -> f
 }
 
 // One address with its value.
-fn write_value<W: fmt::Write>(f: &mut fmt::Formatter<W>, address: u64, value: Option<&u64>) -> fmt::Result {
+fn write_value<W: fmt::Write>(
+    f: &mut fmt::Formatter<W>,
+    address: u64,
+    value: Option<&u64>,
+) -> fmt::Result {
     match value {
         Some(value) => write!(f, " {address}={value}"),
         None => Ok(()),
@@ -72,13 +82,22 @@ fn write_value<W: fmt::Write>(f: &mut fmt::Formatter<W>, address: u64, value: Op
 // How the run ended: at the end of the stream, at a message that is refused, or for want of memory.
 fn write_end<W: fmt::Write>(f: &mut fmt::Formatter<W>, place: usize, end: &End) -> fmt::Result {
     match end {
-        End::Refused(Cause::Stream(StreamFault::NoByteLeft { .. })) => writeln!(f, "end of the stream at byte {place}"),
+        End::Refused(Cause::Stream(StreamFault::NoByteLeft { .. })) => writeln!(
+            f,
+            "end of the stream at byte {place}"
+        ),
         End::Refused(cause) => {
             let number = cause.number();
             let at = cause.place();
-            writeln!(f, "refused: number {number}, place {at}, in the message at byte {place}: {cause}")
+            writeln!(
+                f,
+                "refused: number {number}, place {at}, in the message at byte {place}: {cause}"
+            )
         }
-        End::OutOfMemory => writeln!(f, "stopped at byte {place}: there is no memory to go on with"),
+        End::OutOfMemory => writeln!(
+            f,
+            "stopped at byte {place}: there is no memory to go on with"
+        ),
     }
 }
 

@@ -4,6 +4,7 @@ mod methods;
 ghost use mathlib.Core.Path.{_≡_};
 ghost use Prim.Native.Nat.{_≤_};
 ghost use lib.ListN.{length};
+ghost use Rattle.task.specs.Limits.{max-accesses};
 use crate::Access;
 
 // How many accesses a task may have.
@@ -17,6 +18,6 @@ pub struct Task {
     pub kind: u32,
     slots: [Access; MAX_ACCESSES],
     count: usize,
-    ghost room: { length slots ≡ 15 },
-    ghost few: { count ≤ 15 },
+    ghost room: { length slots ≡ max-accesses },
+    ghost few: { count ≤ max-accesses },
 }

@@ -9,7 +9,8 @@ ghost use Rattle.fault.specs.declared.ManagerFault.the-variants.{TooManyAccesse
 ghost use Rattle.std.specs.Results.{Cases};
 ghost use Rattle.std.specs.declared.result.Result.the-variants.{Ok, Err};
 ghost use Rattle.task.specs.Access.{conflicting, some-access, conflict};
-ghost use Rattle.task.specs.Task.{max-accesses, accesses-of};
+ghost use Rattle.task.specs.Limits.{max-accesses};
+ghost use Rattle.task.specs.Task.{accesses-of};
 use crate::Access;
 use crate::Direction;
 use crate::tasks::MAX_ACCESSES;

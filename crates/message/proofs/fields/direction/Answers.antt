@@ -28,9 +28,12 @@ returns c =
     let bytes = c .args .bytes .now in
     let at = c .args .place .now .at in
     let k = at - c .args .start in
-    let lt : at < length bytes = search needs in
-    (ap (direction-at k) (byte-there at bytes lt) ∙ elim (c .match-code .came) [
-      | need.in-1 w ↦ search needs
-      | need.in-2 w ↦ search needs
-      | need.in-3 w ↦ search needs
-    ], refl, omega arith)
+    let lt : at < length bytes = search needs in (
+      ap (direction-at k) (byte-there at bytes lt) ∙ elim (c .match-code .came) [
+        | need.in-1 w ↦ search needs
+        | need.in-2 w ↦ search needs
+        | need.in-3 w ↦ search needs
+      ],
+      refl,
+      omega arith,
+    )

@@ -21,7 +21,7 @@ returns-in-Break-list c =
     let left : n - i ≡ suc (n - i - 1) = omega arith in
     rw (p .1, p .2)
     (c .loop-i .inv .3 ∙ ap (λ (m : ℕ). prefixed (take i (c .loop-i .list)) (addresses m k bs)) left
-      ∙ addresses-fault (take i (c .loop-i .list)) (n - i - 1) k bs _ (c .in-Break-list .ensures tt .0))
+    ∙ addresses-fault (take i (c .loop-i .list)) (n - i - 1) k bs _ (c .in-Break-list .ensures tt .0))
 
 pub loop-i-again : need.loop-i-again
 loop-i-again c =
@@ -42,8 +42,8 @@ loop-i-again c =
       c .in-Continue-list .ensures tt .2,
       length-set list i a ∙ c .loop-i .inv .2,
       c .loop-i .inv .3 ∙ ap (λ (m : ℕ). prefixed (take i list) (addresses m k (drop at bytes))) left
-        ∙ addresses-more (take i list) (n - i - 1) k (drop at bytes) (drop next bytes) a (c .in-Continue-list .ensures tt .0)
-        ∙ ap (λ (xs : List ℕ). prefixed xs (addresses (n - i - 1) (k + 8) (drop next bytes))) (sym (take-more-set list i a room))
-        ∙ ap (λ (m : ℕ). prefixed (take (i + 1) (set list i a)) (addresses m (k + 8) (drop next bytes))) fewer
-        ∙ ap (λ (m : ℕ). prefixed (take (i + 1) (set list i a)) (addresses (n - (i + 1)) m (drop next bytes))) on,
+          ∙ addresses-more (take i list) (n - i - 1) k (drop at bytes) (drop next bytes) a (c .in-Continue-list .ensures tt .0)
+          ∙ ap (λ (xs : List ℕ). prefixed xs (addresses (n - i - 1) (k + 8) (drop next bytes))) (sym (take-more-set list i a room))
+          ∙ ap (λ (m : ℕ). prefixed (take (i + 1) (set list i a)) (addresses m (k + 8) (drop next bytes))) fewer
+          ∙ ap (λ (m : ℕ). prefixed (take (i + 1) (set list i a)) (addresses (n - (i + 1)) m (drop next bytes))) on,
     )

@@ -29,7 +29,7 @@ returns-in-Break-direction c =
     (record {
       kept = tt;
       read =
-        c .loop-address .inv .5 ∙ ap (λ (l : List ℕ). prefixed xs (directions l k bs)) (drop-cons list i 0 (c .loop-address-test .taken))
+          c .loop-address .inv .5 ∙ ap (λ (l : List ℕ). prefixed xs (directions l k bs)) (drop-cons list i 0 (c .loop-address-test .taken))
           ∙ directions-fault xs (getD list i 0) (drop (suc i) list) k bs _ (c .in-Break-direction .ensures tt .0);
     })
 
@@ -53,10 +53,10 @@ loop-address-again c =
       c .push .ensures .name ∙ c .loop-address .inv .3,
       c .push .ensures .kind ∙ c .loop-address .inv .4,
       c .loop-address .inv .5 ∙ ap (λ (l : List ℕ). prefixed xs (directions l k (drop at bytes))) (drop-cons list i 0 (c .loop-address-test .taken))
-        ∙ directions-more xs (getD list i 0) (drop (suc i) list) k (drop at bytes) (drop next bytes) _ (c .in-Continue-direction .ensures tt .0)
-        ∙ ap (λ (ys : List Access). prefixed ys (directions (drop (suc i) list) (k + 1) (drop next bytes))) (sym pushed)
-        ∙ ap (λ (m : ℕ). prefixed (accesses-of (c .push .last .self)) (directions (drop m list) (k + 1) (drop next bytes))) (sym (add-one i))
-        ∙ ap (λ (m : ℕ). prefixed (accesses-of (c .push .last .self)) (directions (drop (i + 1) list) m (drop next bytes))) on,
+          ∙ directions-more xs (getD list i 0) (drop (suc i) list) k (drop at bytes) (drop next bytes) _ (c .in-Continue-direction .ensures tt .0)
+          ∙ ap (λ (ys : List Access). prefixed ys (directions (drop (suc i) list) (k + 1) (drop next bytes))) (sym pushed)
+          ∙ ap (λ (m : ℕ). prefixed (accesses-of (c .push .last .self)) (directions (drop m list) (k + 1) (drop next bytes))) (sym (add-one i))
+          ∙ ap (λ (m : ℕ). prefixed (accesses-of (c .push .last .self)) (directions (drop (i + 1) list) m (drop next bytes))) on,
     )
 
 pub returns : need.returns

@@ -47,32 +47,32 @@ loop-access-again g c =
     let P : List Numbered → Type 0 = λ l. Bringing w0 (readers xs) l n items values in
     elim (c .if-reads .came) [
       | then-reads w ↦
-      let cut = numbered-more xs i lt reads true (sym (w .if-reads .ensures tt)) in
-      let cap : vec-cap (c .if-reads .read) ≡ vec-cap (c .loop-access .read) = ap vec-cap (w .read-is) ∙ w .bring-one .ensures .room in
-      let len : vec-len (c .if-reads .read) ≡ vec-len (c .loop-access .read) + 1 = ap vec-len (w .read-is) ∙ w .bring-one .ensures .len in (
-        omega (arith, w .n-is, inv .0),
-        omega (arith, w .n-is, len, inv .1),
-        omega (arith, cap, inv .2),
-        ap (g .H·Host .fixed) (w .host-is) ∙ w .bring-one .ensures .fixed ∙ inv .3,
-        there,
-        bring-more w0 (readers xs) left (record { number = i; address = getD xs i blank .address }) n (c .if-reads .n) items (vec-items (c .if-reads .read)) values (g .H·Host .values (c .if-reads .host))
-          (w .n-is)
-          (ap vec-items (w .read-is) ∙ w .bring-one .ensures .read)
-          (ap (g .H·Host .values) (w .host-is) ∙ w .bring-one .ensures .values)
-          (subst P cut (inv .5)),
-      )
+          let cut = numbered-more xs i lt reads true (sym (w .if-reads .ensures tt)) in
+          let cap : vec-cap (c .if-reads .read) ≡ vec-cap (c .loop-access .read) = ap vec-cap (w .read-is) ∙ w .bring-one .ensures .room in
+          let len : vec-len (c .if-reads .read) ≡ vec-len (c .loop-access .read) + 1 = ap vec-len (w .read-is) ∙ w .bring-one .ensures .len in (
+            omega (arith, w .n-is, inv .0),
+            omega (arith, w .n-is, len, inv .1),
+            omega (arith, cap, inv .2),
+            ap (g .H·Host .fixed) (w .host-is) ∙ w .bring-one .ensures .fixed ∙ inv .3,
+            there,
+            bring-more w0 (readers xs) left (record { number = i; address = getD xs i blank .address }) n (c .if-reads .n) items (vec-items (c .if-reads .read)) values (g .H·Host .values (c .if-reads .host))
+                (w .n-is)
+                (ap vec-items (w .read-is) ∙ w .bring-one .ensures .read)
+                (ap (g .H·Host .values) (w .host-is) ∙ w .bring-one .ensures .values)
+                (subst P cut (inv .5)),
+          )
       | else-reads w ↦
-      let cut = numbered-more xs i lt reads false (sym (w .if-reads .ensures tt)) in
-      let cap : vec-cap (c .if-reads .read) ≡ vec-cap (c .loop-access .read) = ap vec-cap (w .read-is) in
-      let len : vec-len (c .if-reads .read) ≡ vec-len (c .loop-access .read) = ap vec-len (w .read-is) in (
-        omega (arith, w .n-is, inv .0),
-        omega (arith, w .n-is, len, inv .1),
-        omega (arith, cap, inv .2),
-        ap (g .H·Host .fixed) (w .host-is) ∙ inv .3,
-        there,
-        same-bringing w0 (readers xs) left n (c .if-reads .n) items (vec-items (c .if-reads .read)) values (g .H·Host .values (c .if-reads .host)) (w .n-is) (ap vec-items (w .read-is)) (ap (g .H·Host .values) (w .host-is))
-          (subst P cut (inv .5)),
-      )
+          let cut = numbered-more xs i lt reads false (sym (w .if-reads .ensures tt)) in
+          let cap : vec-cap (c .if-reads .read) ≡ vec-cap (c .loop-access .read) = ap vec-cap (w .read-is) in
+          let len : vec-len (c .if-reads .read) ≡ vec-len (c .loop-access .read) = ap vec-len (w .read-is) in (
+            omega (arith, w .n-is, inv .0),
+            omega (arith, w .n-is, len, inv .1),
+            omega (arith, cap, inv .2),
+            ap (g .H·Host .fixed) (w .host-is) ∙ inv .3,
+            there,
+            same-bringing w0 (readers xs) left n (c .if-reads .n) items (vec-items (c .if-reads .read)) values (g .H·Host .values (c .if-reads .host)) (w .n-is) (ap vec-items (w .read-is)) (ap (g .H·Host .values) (w .host-is))
+                (subst P cut (inv .5)),
+          )
     ]
 
 pub returns : need.returns

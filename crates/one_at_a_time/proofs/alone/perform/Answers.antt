@@ -70,10 +70,10 @@ returns g c =
         sound = subst (λ (l : List Access). task-fault (h .held) l ≡ None) is sound;
         read = c .bring-all-n .ensures .read ∙ ap (values-read (w .at)) is;
         wrote =
-          c .put-all .ensures .wrote ∙ ap (λ (f : Fixed V). values-written f kind (row 0 n (w′ .aside 0)) xs) kept ∙ ap (λ (l : List V). values-written h kind l xs) seen
+            c .put-all .ensures .wrote ∙ ap (λ (f : Fixed V). values-written f kind (row 0 n (w′ .aside 0)) xs) kept ∙ ap (λ (l : List V). values-written h kind l xs) seen
             ∙ ap (λ (l : List Access). values-written h kind (values-read (w .at) l) l) is;
         values =
-          c .put-all .ensures .values ∙ ap (λ (f : Fixed V). put-alone f kind (row 0 n (w′ .aside 0)) xs w′) kept ∙ ap (λ (l : List V). put-alone h kind l xs w′) seen
+            c .put-all .ensures .values ∙ ap (λ (f : Fixed V). put-alone f kind (row 0 n (w′ .aside 0)) xs w′) kept ∙ ap (λ (l : List V). put-alone h kind l xs w′) seen
             ∙ ap (put-alone h kind vs xs) (c .bring-all-n .ensures .values) ∙ ap (λ (l : List Access). done-alone h 0 kind l w) is;
       };
     }

@@ -52,29 +52,29 @@ loop-i-again g c =
     let P : List Numbered → Type 0 = λ l. Putting h kind n w0 (writers xs) l items values in
     elim (c .if-writes .came) [
       | then-writes w ↦
-      let cut = numbered-more xs i lt writes true (sym (w .if-writes .ensures tt)) in
-      let cap : vec-cap (c .if-writes .wrote) ≡ vec-cap (c .loop-i .wrote) = ap vec-cap (w .wrote-is) ∙ w .put-one .ensures .room in
-      let len : vec-len (c .if-writes .wrote) ≡ vec-len (c .loop-i .wrote) + 1 = ap vec-len (w .wrote-is) ∙ w .put-one .ensures .len in (
-        omega (arith, len, inv .0),
-        omega (arith, cap, inv .1),
-        ap (g .H·Host .fixed) (w .host-is) ∙ w .put-one .ensures .fixed ∙ inv .2,
-        there,
-        put-more h kind n w0 (writers xs) left x items (vec-items (c .if-writes .wrote)) values (g .H·Host .values (c .if-writes .host))
-          (ap vec-items (w .wrote-is) ∙ w .put-one .ensures .wrote ∙ ap (λ (f : Fixed V). items ++ (f .rule kind i (row 0 n (values .aside 0)) ∷ [])) (inv .2))
-          (ap (g .H·Host .values) (w .host-is) ∙ w .put-one .ensures .values ∙ ap (λ (f : Fixed V). worked f kind i n 0 (x .address) values) (inv .2))
-          (subst P cut (inv .4)),
-      )
+          let cut = numbered-more xs i lt writes true (sym (w .if-writes .ensures tt)) in
+          let cap : vec-cap (c .if-writes .wrote) ≡ vec-cap (c .loop-i .wrote) = ap vec-cap (w .wrote-is) ∙ w .put-one .ensures .room in
+          let len : vec-len (c .if-writes .wrote) ≡ vec-len (c .loop-i .wrote) + 1 = ap vec-len (w .wrote-is) ∙ w .put-one .ensures .len in (
+            omega (arith, len, inv .0),
+            omega (arith, cap, inv .1),
+            ap (g .H·Host .fixed) (w .host-is) ∙ w .put-one .ensures .fixed ∙ inv .2,
+            there,
+            put-more h kind n w0 (writers xs) left x items (vec-items (c .if-writes .wrote)) values (g .H·Host .values (c .if-writes .host))
+                (ap vec-items (w .wrote-is) ∙ w .put-one .ensures .wrote ∙ ap (λ (f : Fixed V). items ++ (f .rule kind i (row 0 n (values .aside 0)) ∷ [])) (inv .2))
+                (ap (g .H·Host .values) (w .host-is) ∙ w .put-one .ensures .values ∙ ap (λ (f : Fixed V). worked f kind i n 0 (x .address) values) (inv .2))
+                (subst P cut (inv .4)),
+          )
       | else-writes w ↦
-      let cut = numbered-more xs i lt writes false (sym (w .if-writes .ensures tt)) in
-      let cap : vec-cap (c .if-writes .wrote) ≡ vec-cap (c .loop-i .wrote) = ap vec-cap (w .wrote-is) in
-      let len : vec-len (c .if-writes .wrote) ≡ vec-len (c .loop-i .wrote) = ap vec-len (w .wrote-is) in (
-        omega (arith, len, inv .0),
-        omega (arith, cap, inv .1),
-        ap (g .H·Host .fixed) (w .host-is) ∙ inv .2,
-        there,
-        same-putting h kind n w0 (writers xs) left items (vec-items (c .if-writes .wrote)) values (g .H·Host .values (c .if-writes .host)) (ap vec-items (w .wrote-is)) (ap (g .H·Host .values) (w .host-is))
-          (subst P cut (inv .4)),
-      )
+          let cut = numbered-more xs i lt writes false (sym (w .if-writes .ensures tt)) in
+          let cap : vec-cap (c .if-writes .wrote) ≡ vec-cap (c .loop-i .wrote) = ap vec-cap (w .wrote-is) in
+          let len : vec-len (c .if-writes .wrote) ≡ vec-len (c .loop-i .wrote) = ap vec-len (w .wrote-is) in (
+            omega (arith, len, inv .0),
+            omega (arith, cap, inv .1),
+            ap (g .H·Host .fixed) (w .host-is) ∙ inv .2,
+            there,
+            same-putting h kind n w0 (writers xs) left items (vec-items (c .if-writes .wrote)) values (g .H·Host .values (c .if-writes .host)) (ap vec-items (w .wrote-is)) (ap (g .H·Host .values) (w .host-is))
+                (subst P cut (inv .4)),
+          )
     ]
 
 pub returns : need.returns

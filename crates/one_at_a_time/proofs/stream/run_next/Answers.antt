@@ -26,7 +26,7 @@ returns g c =
       laid = c .in-Continue-message .ensures tt .1;
       moved = c .in-Continue-message .ensures tt .2;
       lines =
-        ap (map line-of) (c .push-reserved .ensures .items ∙ ap (λ (es : List (Entry V)). es ++ (c .in-Continue-entry .entry ∷ [])) (c .reserve .ensures .items))
+          ap (map line-of) (c .push-reserved .ensures .items ∙ ap (λ (es : List (Entry V)). es ++ (c .in-Continue-entry .entry ∷ [])) (c .reserve .ensures .items))
           ∙ map-push line-of (vec-items (c .args .entries .now)) (c .in-Continue-entry .entry) ∙ ap (λ (l : Line V). ls ++ (l ∷ [])) (c .in-Continue-entry .ensures tt .cases .0);
       values = c .in-Continue-entry .ensures tt .cases .1;
     } in

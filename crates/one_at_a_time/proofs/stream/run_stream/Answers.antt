@@ -22,9 +22,8 @@ loop-end-again g c =
     let ls : List (Line V) = lines-of (vec-items (c .loop-end .entries)) in
     let ls′ : List (Line V) = lines-of (vec-items (c .run-next .last .entries)) in
     let w = g .H·Host .values (c .loop-end .host) in
-    let w′ = g .H·Host .values (c .run-next .last .host) in
-    (
+    let w′ = g .H·Host .values (c .run-next .last .host) in (
       c .in-rest .ensures tt .fixed ∙ c .loop-end .inv .0,
       progress-more h bytes at next ls ls′ (g .H·Host .values (c .args .host .now)) w w′ (c .loop-end .inv .1)
-        (subst (λ (f : Fixed V). Next f bytes at next ls ls′ w w′) (c .loop-end .inv .0) (c .in-rest .ensures tt .cases)),
+          (subst (λ (f : Fixed V). Next f bytes at next ls ls′ w w′) (c .loop-end .inv .0) (c .in-rest .ensures tt .cases)),
     )
