@@ -12,7 +12,7 @@ use lib.ListN.{length}
 use Rattle.std.specs.declared.option.Option.{Option}
 use Rattle.std.specs.declared.option.Option.the-variants.{Some, None}
 use Rattle.task.specs.Access.{Numbered, conflict}
-use Rattle.task.specs.Task.{max-accesses}
+use Rattle.task.specs.Limits.{max-accesses}
 use Rattle.host.specs.Meaning.{Fixed, Values, seats}
 use Rattle.one_at_a_time.specs.Alone.{values-read, alone, All-held}
 use Rattle.order.specs.Steps.{Step, bring, Job, steps, done}

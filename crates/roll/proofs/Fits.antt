@@ -18,7 +18,7 @@ use Rattle.fault.specs.declared.ManagerFault.the-variants.{TooManyAccesses, Rep
 use Rattle.fault.specs.Numbers.{manager-number}
 use Rattle.task.specs.declared.Access.{Access}
 use Rattle.task.specs.Access.{writes}
-use Rattle.task.specs.Task.{max-accesses}
+use Rattle.task.specs.Limits.{max-accesses}
 use Rattle.host.specs.Meaning.{Fixed}
 use Rattle.admission.specs.Admission.{repeated, not-held, fault-at, task-fault}
 use Rattle.admission.proofs.Sound.{all-held}

@@ -17,5 +17,5 @@ pub fn law_here<H: Host>(host: &H) -> bool
     ensures law { λ _. ⌜ Law-of (H·Host .fixed (now (host .entry))) (H·Host .values (now (host .entry))) ⌝ }
     ensures value { λ r. ⌜ r ≡ true ⌝ }
 {
-    true
+    serial_equivalence::<H>()
 }
