@@ -35,6 +35,7 @@ cond-keeps P true v w e = e
 cond-keeps P false v w e = refl
 
 module _ {V : Type 0} (h : Fixed V) where
+  -- values of their two parts
   abbrev both : (ℕ → V) → (ℕ → ℕ → V) → Values V
   both at aside = record { at = at; aside = aside }
 
@@ -69,6 +70,7 @@ module _ {V : Type 0} (h : Fixed V) where
       (ap (λ (v : V). update (w .aside) s (update (w .aside s) p v)) (sym (update-other (w .at) b (h .rule kind i (row 0 n (w .aside t))) a far)))
 
   module _ (i j : Job) (ne : eqb (i .seat) (j .seat) ≡ false) where
+    -- what the two steps do, in either order
     changes : (σ τ : Step) → Apart σ τ → (w : Values V) → change j τ (change i σ w) ≡ change i σ (change j τ w)
     changes (bring x p) (bring y q) far w =
         ap (both (w .at)) (asides (w .aside) (i .seat) (j .seat) p q (w .at (x .address)) (w .at (y .address)) ne)
@@ -79,11 +81,8 @@ module _ {V : Type 0} (h : Fixed V) where
         ap (λ (m : ℕ → V). both m (w .aside))
         (update-commute (w .at) (x .address) (h .rule (i .kind) (x .number) (row 0 (size i) (w .aside (i .seat)))) (y .address) (h .rule (j .kind) (y .number) (row 0 (size j) (w .aside (j .seat)))) far)
 
-    abbrev Commuting : Step → Step → Type 0
-    Commuting σ τ = (w : Values V) → done h j τ (done h i σ w) ≡ done h i σ (done h j τ w)
-
-    -- the two steps in either order
-    pub commute : (σ τ : Step) → Apart σ τ → Commuting σ τ
+    -- the two steps in either order, each done only if the host's test of it holds
+    pub commute : (σ τ : Step) → Apart σ τ → (w : Values V) → done h j τ (done h i σ w) ≡ done h i σ (done h j τ w)
     commute (bring x p) (bring y q) far =
         tested (change i (bring x p)) (change j (bring y q)) (changes (bring x p) (bring y q) far) (may i (bring x p)) (may j (bring y q))
     commute (bring x p) (put y) far = tested (change i (bring x p)) (change j (put y)) (changes (bring x p) (put y) far) (may i (bring x p)) (may j (put y))

@@ -44,11 +44,12 @@ abbrev pub Left : {V : Type 0} → Fixed V → Job → List Step → Type 0
 Left h j [] = Unit {0}
 Left h j (σ ∷ ss) = Fit h j σ × In-order σ ss × Left h j ss
 
--- brings from p on, and puts, are above every position before p
+-- puts fill no position
 above-puts : (q : ℕ) (ws : List Numbered) → All (Above q) (puts ws)
 above-puts q [] = tt
 above-puts q (x ∷ ws) = (tt, above-puts q ws)
 
+-- brings from p on fill no position before p
 above-steps : (q p : ℕ) (rs ws : List Numbered) → q < p → All (Above q) (brings p rs ++ puts ws)
 above-steps q p [] ws lt = above-puts q ws
 above-steps q p (x ∷ rs) ws lt = (lt, above-steps q (suc p) rs ws (omega arith))
@@ -71,11 +72,12 @@ listed h p i (x ∷ xs) held =
     (all-weaker (Listed h p xs) (Listed h p (x ∷ xs)) (λ y l. (or-right (eqb (x .address) (y .address) && p x) (has p xs (y .address)) (l .0), l .1))
     (numbered p (suc i) xs) (listed h p (suc i) xs (held .1)))
 
--- they are at most as many as the accesses
+-- with one more element, if the test holds, a list is at most one longer
 keep-few : {A : Type 0} (b : Bool) (x : A) (rest : List A) → length (keep b x rest) ≤ suc (length rest)
 keep-few true x rest = omega arith
 keep-few false x rest = omega arith
 
+-- the accesses that pass the test are at most as many as all
 numbered-few : (p : Access → Bool) (i : ℕ) (xs : List Access) → length (numbered p i xs) ≤ length xs
 numbered-few p i [] = omega arith
 numbered-few p i (x ∷ xs) = omega (arith, keep-few (p x) (record { number = i; address = x .address }) (numbered p (suc i) xs), numbered-few p (suc i) xs)
@@ -84,12 +86,15 @@ module _ {V : Type 0} (h : Fixed V) (j : Job) (s : Sound h j) where
   abbrev xs : List Access
   xs = j .accesses
 
-  few : size j ≤ 15
+  -- it reads no more values than a seat has positions
+  few : size j ≤ positions
   few = let n : length xs ≤ 15 = s .few in omega (arith, numbered-few reads 0 xs)
 
+  -- its seat is within the table
   seated : ltb (j .seat) seats ≡ true
   seated = lt-ltb (j .seat) seats (s .low)
 
+  -- its puts
   left-puts : (ws : List Numbered) → All (Listed h writes xs) ws → Left h j (puts ws)
   left-puts [] l = tt
   left-puts (x ∷ ws) l = (
@@ -102,19 +107,19 @@ module _ {V : Type 0} (h : Fixed V) (j : Job) (s : Sound h j) where
     left-puts ws (l .1),
   )
 
+  -- its brings from a position on, and its puts
   left-steps : (p : ℕ) (rs ws : List Numbered) → p + length rs ≤ size j → All (Listed h reads xs) rs → All (Listed h writes xs) ws → Left h j (brings p rs ++ puts ws)
   left-steps p [] ws le l m = left-puts ws m
   left-steps p (x ∷ rs) ws le l m =
-      let lt : p < size j = omega arith in
-      (
-    record {
-      own = l .0 .0;
-      allowed = and-from (h .held (x .address)) (ltb (j .seat) seats && ltb p positions) (l .0 .1) (and-from (ltb (j .seat) seats) (ltb p positions) seated (lt-ltb p positions (omega (arith, few))));
-      low = lt;
-    },
-    above-steps p (suc p) rs ws (omega arith),
-    left-steps (suc p) rs ws (omega arith) (l .1) m,
-  )
+      let lt : p < size j = omega arith in (
+        record {
+          own = l .0 .0;
+          allowed = and-from (h .held (x .address)) (ltb (j .seat) seats && ltb p positions) (l .0 .1) (and-from (ltb (j .seat) seats) (ltb p positions) seated (lt-ltb p positions (omega (arith, few))));
+          low = lt;
+        },
+        above-steps p (suc p) rs ws (omega arith),
+        left-steps (suc p) rs ws (omega arith) (l .1) m,
+      )
 
   -- all steps of a sound task
   pub all-left : Left h j (steps xs)

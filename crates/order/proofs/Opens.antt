@@ -1,11 +1,11 @@
 -- What holds of each of the open tasks, where one of them changes or leaves; and that their seats differ. Assumes nothing.
-use mathlib.Core.Path.{_≡_, refl, ap, subst}
+use mathlib.Core.Path.{_≡_, subst}
 use mathlib.Core.Bool.{false}
 use mathlib.Core.List.{List, [], _∷_, _++_}
 use Prim.Native.Nat.{ℕ}
 use lib.Dec.{eqb}
 use Rattle.std.specs.shelf.Lists.{All}
-use Rattle.std.proofs.shelf.Elements.{all-append, all-push}
+use Rattle.std.proofs.shelf.Elements.{all-push}
 use Rattle.std.proofs.shelf.Tests.{ne-eqb}
 use Rattle.order.specs.Order.{Open, Each}
 use Rattle.order.proofs.Update.{eqb-flip}

@@ -1,7 +1,7 @@
 -- What holds of everything that is reached, and from it that whatever is reached agrees with the one-at-a-time run. Assumes nothing.
 use mathlib.Core.Path.{_≡_, refl, sym, ap, _∙_, subst}
 use mathlib.Core.List.{List, [], _∷_, _++_}
-use Prim.Native.Nat.{ℕ, _<_}
+use Prim.Native.Nat.{ℕ}
 use Rattle.std.specs.declared.option.Option.the-variants.{Some}
 use Rattle.std.specs.shelf.Lists.{All}
 use Rattle.std.proofs.shelf.Elements.{all-push}
@@ -11,9 +11,9 @@ use Rattle.one_at_a_time.specs.Alone.{values-read, alone}
 use Rattle.order.specs.Steps.{Step, bring, Job, steps, done}
 use Rattle.order.specs.Order.{Open, Each, Sound, Out-of-the-way, Reached, begins, enters, goes, leaves, nth, Any-order-is-serial}
 use Rattle.order.proofs.Commute.{size}
-use Rattle.order.proofs.Left.{Left, all-left}
+use Rattle.order.proofs.Left.{all-left}
 use Rattle.order.proofs.Complete.{Elsewhere, Leaves, runs, complete, complete-append, complete-none, advance}
-use Rattle.order.proofs.Whole.{nth-row, complete-away, filled-by, kept, whole-reads, whole-writes, whole-away}
+use Rattle.order.proofs.Whole.{nth-row, complete-away, filled-by, kept, whole-reads, whole-writes, away}
 use Rattle.order.proofs.Opens.{all-front, all-back, all-change, all-without, all-both, Seats-differ, elsewhere, differ-before, differ-behind, differ-change, differ-without, differ-push}
 
 -- by these values held aside, the task has read its list
@@ -36,15 +36,15 @@ module _ {V : Type 0} (h : Fixed V) where
       let o : Open V = record { job = j; left = steps (j .accesses); reads = values-read at (j .accesses) } in
       let v : Values V = complete h os w in
       let all : complete h (os ++ (o ∷ [])) w ≡ runs h j (steps (j .accesses)) v = complete-append h os (o ∷ []) w in
-      let other : All (Elsewhere (j .seat)) os = elsewhere (j .seat) os ne in
+      let others : All (Elsewhere (j .seat)) os = elsewhere (j .seat) os ne in
       let after : ℕ → ℕ → V = runs h j (steps (j .accesses)) v .aside in
       record {
         lefts = all-push (Leaves h) os o (a .lefts) (all-left h j s);
-        differ = differ-push os o other (a .differ);
+        differ = differ-push os o others (a .differ);
         values = ap (λ (u : Values V). u .at) all ∙ whole-writes h j s v ∙ ap (alone h (j .kind) (j .accesses)) (a .values);
         readings = subst (λ (u : Values V). All (Has-read (u .aside)) (os ++ (o ∷ []))) (sym all)
             (all-push (Has-read after) os o
-            (all-both (Elsewhere (j .seat)) (Has-read (v .aside)) (Has-read after) (λ e away read. ap (row 0 (size (e .job))) (whole-away h j (e .job .seat) away v) ∙ read) os other (a .readings))
+            (all-both (Elsewhere (j .seat)) (Has-read (v .aside)) (Has-read after) (λ e other read. ap (row 0 (size (e .job))) (away h j (e .job .seat) other (steps (j .accesses)) v) ∙ read) os others (a .readings))
             (whole-reads h j s v ∙ ap (λ (f : ℕ → V). values-read f (j .accesses)) (a .values)));
       }
 
@@ -53,13 +53,14 @@ module _ {V : Type 0} (h : Fixed V) where
     abbrev with-left : List Step → Open V
     with-left ss = record { job = j; left = ss; reads = vs }
 
-    -- the next step of a task, done now
+    -- the next step of a task, done now, leaves what the steps that are left come to
     step-same : (σ : Step) (ss : List Step) → Each (Out-of-the-way j) pre → Agrees h (pre ++ (with-left (σ ∷ ss) ∷ post)) w at →
         complete h (pre ++ (with-left ss ∷ post)) (done h j σ w) ≡ complete h (pre ++ (with-left (σ ∷ ss) ∷ post)) w
     step-same σ ss free a =
         advance h j σ (all-back (Leaves h) pre (with-left (σ ∷ ss) ∷ post) (a .lefts) .0 .0 .own) pre post ss vs
         (differ-before pre post (with-left (σ ∷ ss)) (a .differ)) free (all-front (Leaves h) pre (with-left (σ ∷ ss) ∷ post) (a .lefts)) w
 
+    -- the next step of a task is done
     agrees-go : (σ : Step) (ss : List Step) → Each (Out-of-the-way j) pre → Agrees h (pre ++ (with-left (σ ∷ ss) ∷ post)) w at →
         Agrees h (pre ++ (with-left ss ∷ post)) (done h j σ w) at
     agrees-go σ ss free a =
@@ -87,21 +88,24 @@ module _ {V : Type 0} (h : Fixed V) where
               (all-without (Has-read (complete h (pre ++ (o ∷ post)) w .aside)) pre post o (a .readings));
         }
 
-    -- right after a bring its position holds the value that the task reads there
+    -- a bring that may be done next
     module _ (x : Numbered) (p : ℕ) (ss : List Step) (free : Each (Out-of-the-way j) pre) (a : Agrees h (pre ++ (with-left (bring x p ∷ ss) ∷ post)) w at) where
+      -- its task, and the values after it
       abbrev o : Open V
       o = with-left (bring x p ∷ ss)
 
       abbrev brought : Values V
       brought = done h j (bring x p) w
 
+      -- what the steps left to its task are like
       left : Leaves h o
       left = all-back (Leaves h) pre (o ∷ post) (a .lefts) .0
 
+      -- it fills its position with the value at the address
       fills : brought .aside (j .seat) p ≡ w .at (x .address)
       fills = filled-by h j x p (left .0 .allowed) w
 
-      -- the steps that are left do not change it
+      -- the steps that are left then do not change that position
       stays : complete h (pre ++ (o ∷ post)) w .aside (j .seat) p ≡ brought .aside (j .seat) p
       stays =
           let v : Values V = complete h pre brought in
@@ -110,6 +114,7 @@ module _ {V : Type 0} (h : Fixed V) where
           ∙ kept h j p ss (left .1) v
           ∙ ap (λ (f : ℕ → V). f p) (complete-away h (j .seat) pre (differ-before pre post o (a .differ)) brought)
 
+      -- so the task reads that value there in the one-at-a-time run
       reads-there : nth vs p ≡ Some (w .at (x .address))
       reads-there =
           let all : Values V = complete h (pre ++ (o ∷ post)) w in

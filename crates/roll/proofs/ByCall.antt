@@ -25,6 +25,7 @@ both-none None g e = (refl, e)
 both-none (Some fault) g e = absurd (none-some fault (sym e))
 
 module _ {V : Type 0} (m : Setting V) (b : State V) (P : Call → Outcome V → Type 0) (no : (c : Call) (fault : ManagerFault) → P c (refused fault)) where
+  -- what is to be shown of an accepted submission, a take, a step and a finish that succeed
   abbrev Enters : Type 0
   Enters = (name kind : ℕ) (xs : List Access) (s : ℕ) (free : List ℕ) → b .free-line ≡ s ∷ free → lasting-fault (m .tables) (m .host .held) xs ≡ None →
       P (submit name kind xs) (succeeded (accepted b name kind xs s free))
@@ -38,6 +39,7 @@ module _ {V : Type 0} (m : Setting V) (b : State V) (P : Call → Outcome V → 
   abbrev Leaves : Type 0
   Leaves = (s : ℕ) (e : Entry) → find s (b .roll) ≡ Some (stand (running []) e) → P (finish s) (finished b s (running []))
 
+  -- a submission, by its fault and the seat that is given
   by-submit : Enters → (name kind : ℕ) (xs : List Access) (f : Option ManagerFault) (o : Option (ℕ × List ℕ)) →
       submit-fault (m .tables) (m .host .held) (b .roll) (b .free-line) xs ≡ f → give-seat (b .free-line) ≡ o → P (submit name kind xs) (submitted b name kind xs f o)
   by-submit enters name kind xs (Some fault) o q e = no (submit name kind xs) fault
@@ -45,6 +47,7 @@ module _ {V : Type 0} (m : Setting V) (b : State V) (P : Call → Outcome V → 
   by-submit enters name kind xs None (Some p) q e =
       enters name kind xs (p .0) (p .1) (given (b .free-line) p e) (both-none (lasting-fault (m .tables) (m .host .held) xs) _ q .0)
 
+  -- a take: by the standing of the entry, by the entry that is found, and by the ready line
   by-begun : Begins → (s : ℕ) (line : List ℕ) (e : Entry) (st : Standing) → b .ready-line ≡ s ∷ line → find s (b .roll) ≡ Some (stand st e) → P take (begun b s line e st)
   by-begun begins s line e waiting q f = no take LineEmpty
   by-begun begins s line e ready q f = begins s line e q f
@@ -58,6 +61,7 @@ module _ {V : Type 0} (m : Setting V) (b : State V) (P : Call → Outcome V → 
   by-take begins [] q = no take LineEmpty
   by-take begins (s ∷ line) q = by-found begins s line (find s (b .roll)) q refl
 
+  -- a step: by the standing of the entry, and by the entry that is found
   by-stepped : Goes → (s : ℕ) (e : Entry) (st : Standing) → find s (b .roll) ≡ Some (stand st e) → P (step s) (stepped (m .host) b s (e .job) st)
   by-stepped goes s e waiting f = no (step s) (NotRunning s)
   by-stepped goes s e ready f = no (step s) (NotRunning s)
@@ -68,6 +72,7 @@ module _ {V : Type 0} (m : Setting V) (b : State V) (P : Call → Outcome V → 
   by-step goes s None f = no (step s) (NotRunning s)
   by-step goes s (Some e) f = by-stepped goes s e (e .standing) f
 
+  -- a finish, likewise
   by-finished : Leaves → (s : ℕ) (e : Entry) (st : Standing) → find s (b .roll) ≡ Some (stand st e) → P (finish s) (finished b s st)
   by-finished leaves s e waiting f = no (finish s) (NotRunning s)
   by-finished leaves s e ready f = no (finish s) (NotRunning s)

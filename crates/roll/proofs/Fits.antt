@@ -37,6 +37,7 @@ abbrev Early : Option ManagerFault → Type 0
 Early None = Unit {0}
 Early (Some fault) = manager-number fault ≤ 9
 
+-- the first of two such faults, one behind a test, and one at an access
 early-or : (f g : Option ManagerFault) → Early f → Early g → Early (or-else f g)
 early-or None g h k = k
 early-or (Some fault) g h k = h
@@ -49,6 +50,7 @@ early-at : (o : Option ℕ) (fault : ℕ → ManagerFault) (next : Option Manage
 early-at None fault next h k = k
 early-at (Some i) fault next h k = h i
 
+-- a lasting fault is no stall
 early-lasting : (z : Tables) (held : ℕ → Bool) (xs : List Access) → Early (lasting-fault z held xs)
 early-lasting z held xs =
     early-or (task-fault held xs) _
@@ -69,10 +71,12 @@ test-fails : (b : Bool) (fault : ManagerFault) (next : Option ManagerFault) → 
 test-fails true fault next e = absurd (none-some fault (sym e))
 test-fails false fault next e = refl
 
+-- an option that is not full is empty
 is-none : (o : Option ℕ) → isSome o ≡ false → o ≡ None
 is-none None e = refl
 is-none (Some i) e = absurd (true≢false e)
 
+-- without a lasting fault the task is within every limit
 pub fitting : {V : Type 0} (z : Tables) (h : Fixed V) (xs : List Access) → lasting-fault z (h .held) xs ≡ None → Fitting z h xs
 fitting z h xs e =
     let c : Option ℕ = crowded (λ set. fresh z [] set xs) in
@@ -120,6 +124,7 @@ stall-late : {V : Type 0} (b : State V) (name kind : ℕ) (xs : List Access) (f 
 stall-late b name kind xs (Some fault) g o early s = absurd (omega (arith, early, s .0))
 stall-late b name kind xs None g o early s = refl
 
+-- so it is with the lasting fault of a submission
 pub stalls-none : {V : Type 0} (z : Tables) (held : ℕ → Bool) (b : State V) (name kind : ℕ) (xs : List Access) (g : Option ManagerFault) (o : Option (ℕ × List ℕ)) →
     Stalls (submitted b name kind xs (or-else (lasting-fault z held xs) g) o) → lasting-fault z held xs ≡ None
 stalls-none z held b name kind xs g o s = stall-late b name kind xs (lasting-fault z held xs) g o (early-lasting z held xs) s

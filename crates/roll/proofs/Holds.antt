@@ -35,6 +35,7 @@ ready-few s x waiting = omega arith
 ready-few s x ready = omega arith
 ready-few s x (running ss) = omega arith
 
+-- so a seat is a ready entry's at most as often as an entry's
 readies-few : (s : ℕ) (roll : Roll) → count s (readies roll) ≤ count s (seats-of roll)
 readies-few s [] = omega arith
 readies-few s (e ∷ es) =
@@ -68,17 +69,20 @@ module _ {V : Type 0} (theorem : Any-order-is-serial V) (m : Setting V) (w0 : Va
   abbrev Pays : Call → Outcome V → Type 0
   Pays c o = enters c o ≡ 0 → works c o + dues (noted m h c o .state .roll) ≡ dues here
 
+  -- a change of standing after which one call less is due
   pays-change : (s : ℕ) (k : Entry) (st : Standing) → find s here ≡ Some k → due (k .job .accesses) (k .standing) ≡ suc (due (k .job .accesses) st) → 1 + dues (change s st here) ≡ dues here
   pays-change s k st f less =
       let r : Split s k here = split s k here f in
       omega (arith, ap dues (r .changed st), dues-++ (r .pre) (stand st k ∷ r .post), ap dues (r .is), dues-++ (r .pre) (k ∷ r .post), less)
 
+  -- a removal, and the waking after it
   pays-finish : (s : ℕ) (e : Entry) → find s here ≡ Some (stand (running []) e) → 1 + dues (wake [] (without s here)) ≡ dues here
   pays-finish s e f =
       let k : Entry = stand (running []) e in
       let r : Split s k here = split s k here f in
       omega (arith, dues-wake [] (without s here), ap dues (r .removed), dues-++ (r .pre) (r .post), ap dues (r .is), dues-++ (r .pre) (k ∷ r .post))
 
+  -- every call
   pays : (c : Call) → Pays c (perform m (h .state) c)
   pays =
       by-call m (h .state) Pays (λ c fault z. omega arith) (λ name kind xs s free e q z. absurd (omega (arith, z)))
@@ -102,6 +106,7 @@ module _ {V : Type 0} (theorem : Any-order-is-serial V) (m : Setting V) (w0 : Va
   first-found : (k : Entry) (es : Roll) → here ≡ k ∷ es → find (k .job .seat) here ≡ Some k
   first-found k es e = ap (find (k .job .seat)) e ∙ cond-true (eqb (k .job .seat) (k .job .seat)) (Some k) (find (k .job .seat) es) (eq-eqb (k .job .seat) (k .job .seat) refl)
 
+  -- by its standing: it does not wait, since there is no earlier task
   first-goes : (k : Entry) (st : Standing) (es : Roll) → here ≡ stand st k ∷ es → (c : Call) × (works c (perform m (h .state) c) ≡ 1)
   first-goes k waiting es e = absurd (true≢false (subst (Rightly []) e (i .rightly) .0))
   first-goes k ready es e =
@@ -118,6 +123,7 @@ module _ {V : Type 0} (theorem : Any-order-is-serial V) (m : Setting V) (w0 : Va
   some-goes [] e some-left = absurd (some-left refl)
   some-goes (k ∷ es) e some-left = first-goes k (k .standing) es e
 
+  -- so while there is a task, some call succeeds
   goes-on : (Idle h → ⊥) → (c : Call) × (works c (perform m (h .state) c) ≡ 1)
   goes-on some-left = some-goes here refl some-left
 
@@ -151,6 +157,7 @@ module _ {V : Type 0} (theorem : Any-order-is-serial V) (m : Setting V) (w0 : Va
       enters-if b name kind xs (submit-fault (m .tables) (m .host .held) (b .roll) (b .free-line) xs) (b .free-line)
       (no-fault (m .tables) (m .host) xs fine (b .roll) (b .free-line) idle le) le
 
+  -- all clauses of the law
   holds : (h : History V) → Kept m w0 h → Holds m h
   holds h i = record {
     reads-agree = i .agrees;

@@ -38,6 +38,7 @@ In-turn p [] = Unit {0}
 In-turn p (bring x q ∷ ss) = (q ≡ p) × In-turn (suc p) ss
 In-turn p (put x ∷ ss) = In-turn p ss
 
+-- so it is with the steps that a task comes to
 in-turn-puts : (p : ℕ) (ws : List Numbered) → In-turn p (puts ws)
 in-turn-puts p [] = tt
 in-turn-puts p (w ∷ ws) = in-turn-puts p ws
@@ -54,6 +55,7 @@ Reads-on got e = In-turn (length (got (e .job .seat))) (steps-left (e .standing)
 abbrev pub Low : ℕ → Type 0
 Low s = s < seats
 
+-- an entry with such a seat
 abbrev Seated-low : Entry → Type 0
 Seated-low e = Low (e .job .seat)
 
@@ -78,16 +80,18 @@ pub record Kept {V : Type 0} (m : Setting V) (w0 : Values V) (h : History V) : T
   -- the free seats and the tasks are as many as the seats
   pub total : length (h .state .free-line) + length (h .state .roll) ≡ m .tables .seats
 
--- a list that agrees with another agrees with one more element of it
+-- a list with one more element at the end: the others stay
 nth-front : {V : Type 0} (vs : List V) (v : V) (p : ℕ) → p < length vs → nth (vs ++ (v ∷ [])) p ≡ nth vs p
 nth-front [] v p lt = absurd (omega arith)
 nth-front (x ∷ vs) v zero lt = refl
 nth-front (x ∷ vs) v (suc p) lt = nth-front vs v p (omega arith)
 
+-- and it is the last
 nth-end : {V : Type 0} (vs : List V) (v : V) → nth (vs ++ (v ∷ [])) (length vs) ≡ Some v
 nth-end [] v = refl
 nth-end (x ∷ vs) v = nth-end vs v
 
+-- so what was read agrees after one more value that does
 agrees-more : {V : Type 0} (vs all : List V) (v : V) → nth all (length vs) ≡ Some v → ((p : ℕ) → p < length vs → nth vs p ≡ nth all p) →
     (p : ℕ) → p < length (vs ++ (v ∷ [])) → nth (vs ++ (v ∷ [])) p ≡ nth all p
 agrees-more vs all v e h p lt = ⊎-elim (λ (l : p < length vs). nth-front vs v p l ∙ h p l)
@@ -101,6 +105,7 @@ agrees-at : {V : Type 0} (b : Bool) (g g′ r r′ : List V) → (b ≡ true →
 agrees-at true g g′ r r′ h k p lt = h refl p lt
 agrees-at false g g′ r r′ h k p lt = k p lt
 
+-- a choice between equals
 cond-same : {A : Type 0} (b : Bool) (x : A) → cond b x x ≡ x
 cond-same true x = refl
 cond-same false x = refl
@@ -126,6 +131,7 @@ first-lined x s line true = omega arith
 first-lined x s line false = count-++ x line (s ∷ [])
 
 module _ {V : Type 0} (m : Setting V) (w0 : Values V) (h : History V) (i : Kept m w0 h) where
+  -- the roll and the host's values
   abbrev here : Roll
   here = h .state .roll
 
@@ -205,6 +211,7 @@ module _ {V : Type 0} (m : Setting V) (w0 : Values V) (h : History V) (i : Kept 
 
   -- step: the next step of a task that no earlier one blocks
   module _ (s : ℕ) (e : Entry) (σ : Step) (ss : List Step) (r : Split s (stand (running (σ ∷ ss)) e) here) where
+    -- the open tasks before it and behind it, and itself with these steps left
     abbrev before : List (Open V)
     before = opens (h .reads) (r .pre)
 
@@ -225,6 +232,7 @@ module _ {V : Type 0} (m : Setting V) (w0 : Values V) (h : History V) (i : Kept 
     clear : Each (Out-of-the-way (e .job)) before
     clear = opens-clear (h .reads) (e .job) (r .pre) (clear-before (stand (running (σ ∷ ss)) e) (r .pre) (r .post) [] refl (subst (Rightly []) (r .is) (i .rightly)))
 
+    -- the order so far, with the step as the next one of its task
     may-go : Reaches (before ++ (with-left (σ ∷ ss) ∷ behind))
     may-go = subst Reaches (ap (opens (h .reads)) (r .is) ∙ opens-++ (h .reads) (r .pre) (stand (running (σ ∷ ss)) e ∷ r .post)) (i .reached)
 
@@ -264,6 +272,7 @@ module _ {V : Type 0} (m : Setting V) (w0 : Values V) (h : History V) (i : Kept 
       subst (λ (n : ℕ). In-turn n ss) more (all-found r (Reads-on (h .got)) (i .reads-on) .1)
   next-turn s e (put x) ss r = subst (λ (y : ℕ). In-turn (length (h .got y)) ss) (r .sits-there) (all-found r (Reads-on (h .got)) (i .reads-on))
 
+  -- all of it after a step
   pub kept-step : Any-order-is-serial V → (s : ℕ) (e : Entry) (σ : Step) (ss : List Step) → find s here ≡ Some (stand (running (σ ∷ ss)) e) →
       Kept m w0 (noted m h (step s) (stepped (m .host) (h .state) s (e .job) (running (σ ∷ ss))))
   kept-step theorem s e σ ss f =

@@ -20,6 +20,7 @@ steps-left waiting xs = steps xs
 steps-left ready xs = steps xs
 steps-left (running ss) xs = ss
 
+-- whether a task waits
 abbrev pub waits : Standing → Bool
 waits waiting = true
 waits ready = false
@@ -59,6 +60,7 @@ pub rightly-change : (st : Standing) (k : Entry) → waits st ≡ waits (k .stan
 rightly-change st k w [] post ds j = (w ∙ j .0, rightly-earlier (k ∷ ds) (stand st k ∷ ds) post (λ xs. refl) (j .1))
 rightly-change st k w (e ∷ pre) post ds j = (j .0, rightly-change st k w pre post (e ∷ ds) (j .1))
 
+-- three tests in another order
 or-swap : (a b c : Bool) → ((a || b) || c) ≡ (b || (a || c))
 or-swap true true c = refl
 or-swap true false c = refl
@@ -92,6 +94,7 @@ pub safely-without : (k : Entry) (pre post ds : Roll) → Rightly ds (pre ++ (k 
 safely-without k [] post ds j = safely-from (k ∷ ds) ds post (λ xs f. or-parts (conflict (k .job .accesses) xs) (blocked ds xs) f .1) (j .1)
 safely-without k (e ∷ pre) post ds j = (λ w. sym (j .0) ∙ w, safely-without k pre post (e ∷ ds) (j .1))
 
+-- after a waking a task waits exactly if it is blocked
 waits-rouse : (b : Bool) (st : Standing) → (waits st ≡ false → b ≡ false) → waits (rouse b st) ≡ b
 waits-rouse true waiting h = refl
 waits-rouse false waiting h = refl
@@ -120,6 +123,7 @@ all-wake P ds [] h = tt
 all-wake P ds (e ∷ roll) h =
     (subst (P (e .job)) (sym (left-rouse (e .job .accesses) (blocked ds (e .job .accesses)) (e .standing))) (h .0), all-wake P (e ∷ ds) roll (h .1))
 
+-- the seats, and how many there are, stay
 pub seats-wake : (ds roll : Roll) → seats-of (wake ds roll) ≡ seats-of roll
 seats-wake ds [] = refl
 seats-wake ds (e ∷ roll) = ap (λ (xs : List ℕ). e .job .seat ∷ xs) (seats-wake (e ∷ ds) roll)
@@ -138,12 +142,14 @@ abbrev pub readies : Roll → List ℕ
 readies [] = []
 readies (e ∷ es) = if-ready (e .standing) (e .job .seat) ++ readies es
 
+-- in two parts of a roll
 pub count-readies-++ : (s : ℕ) (xs ys : Roll) → count s (readies (xs ++ ys)) ≡ count s (readies xs) + count s (readies ys)
 count-readies-++ s [] ys = omega arith
 count-readies-++ s (x ∷ xs) ys =
     let m : List ℕ = if-ready (x .standing) (x .job .seat) in
     omega (arith, count-++ s m (readies (xs ++ ys)), count-++ s m (readies xs), count-readies-++ s xs ys)
 
+-- one task: ready before, or woken
 count-rouse : (s : ℕ) (b : Bool) (st : Standing) (x : ℕ) → count s (if-ready (rouse b st) x) ≡ count s (if-ready st x) + count s (roused b st x)
 count-rouse s true waiting x = omega arith
 count-rouse s false waiting x = omega arith

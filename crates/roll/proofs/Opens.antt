@@ -21,6 +21,7 @@ module _ {V : Type 0} where
   opens reads [] = []
   opens reads (e ∷ es) = opened reads e ∷ opens reads es
 
+  -- of two parts of a roll
   pub opens-++ : (reads : ℕ → List V) (xs ys : Roll) → opens reads (xs ++ ys) ≡ opens reads xs ++ opens reads ys
   opens-++ reads [] ys = refl
   opens-++ reads (x ∷ xs) ys = ap (λ (os : List (Open V)). opened reads x ∷ os) (opens-++ reads xs ys)

@@ -19,10 +19,12 @@ due xs waiting = length (steps xs) + 2
 due xs ready = length (steps xs) + 2
 due xs (running ss) = length ss + 1
 
+-- of all tasks of a roll
 abbrev pub dues : Roll → ℕ
 dues [] = 0
 dues (e ∷ es) = due (e .job .accesses) (e .standing) + dues es
 
+-- of two parts of a roll
 pub dues-++ : (xs ys : Roll) → dues (xs ++ ys) ≡ dues xs + dues ys
 dues-++ [] ys = omega arith
 dues-++ (x ∷ xs) ys = omega (arith, dues-++ xs ys)
@@ -57,6 +59,7 @@ length-puts : (ws : List Numbered) → length (puts ws) ≡ length ws
 length-puts [] = refl
 length-puts (w ∷ ws) = ap suc (length-puts ws)
 
+-- all its steps
 pub length-steps : (xs : List Access) → length (steps xs) ≡ length (readers xs) + length (writers xs)
 length-steps xs =
     omega (arith, length-append (brings 0 (readers xs)) (puts (writers xs)), length-brings 0 (readers xs), length-puts (writers xs))
@@ -75,6 +78,7 @@ pub paid-finish : (spent : ℕ → ℕ) (roll : Roll) → All (Paid spent) roll 
 paid-finish spent [] h = tt
 paid-finish spent (e ∷ es) h = (omega (arith, h .0, due-some (e .job .accesses) (e .standing)), paid-finish spent es (h .1))
 
+-- a waking changes nothing of that
 pub paid-wake : (spent : ℕ → ℕ) (ds roll : Roll) → All (Paid spent) roll → All (Paid spent) (wake ds roll)
 paid-wake spent ds [] h = tt
 paid-wake spent ds (e ∷ es) h = (omega (arith, h .0, due-rouse (e .job .accesses) (blocked ds (e .job .accesses)) (e .standing)), paid-wake spent (e ∷ ds) es (h .1))

@@ -73,6 +73,7 @@ abbrev pub count : ℕ → List ℕ → ℕ
 count s [] = 0
 count s (x ∷ xs) = tally (eqb x s) + count s xs
 
+-- in two lists, one behind the other
 pub count-++ : (s : ℕ) (xs ys : List ℕ) → count s (xs ++ ys) ≡ count s xs + count s ys
 count-++ s [] ys = omega arith
 count-++ s (x ∷ xs) ys = omega (arith, count-++ s xs ys)
@@ -86,6 +87,7 @@ abbrev pub seats-of : Roll → List ℕ
 seats-of [] = []
 seats-of (e ∷ es) = e .job .seat ∷ seats-of es
 
+-- of two parts of a roll
 pub seats-++ : (xs ys : Roll) → seats-of (xs ++ ys) ≡ seats-of xs ++ seats-of ys
 seats-++ [] ys = refl
 seats-++ (x ∷ xs) ys = ap (λ (zs : List ℕ). x .job .seat ∷ zs) (seats-++ xs ys)
