@@ -34,14 +34,14 @@ pub record Ran-alone {V : Type 0} (h : Fixed V) (task : Task) (t : TaskRun V) (b
   pub wrote : vec-items (t .wrote) ≡ values-written h (task .kind) (values-read (before .at) (accesses-of task)) (accesses-of task)
   pub values : after ≡ done-alone h 0 (task .kind) (accesses-of task) before
 
--- a task was not run: for its first fault, or for want of memory
+-- a task was not run: for its first fault, or, where it has none, for want of memory
 abbrev pub Not-run-for : {V : Type 0} → Fixed V → Task → Cause → Type 0
 Not-run-for h task (Stream fault) = ⊥
 Not-run-for h task (Manager fault) = task-fault (h .held) (accesses-of task) ≡ Some fault
 
 abbrev pub Not-run : {V : Type 0} → Fixed V → Task → End → Type 0
 Not-run h task (Refused cause) = Not-run-for h task cause
-Not-run h task OutOfMemory = Unit {0}
+Not-run h task OutOfMemory = task-fault (h .held) (accesses-of task) ≡ None
 
 -- the line of an entry, and the lines of a list of entries
 abbrev pub line-of : {V : Type 0} → Entry V → Line V
@@ -64,20 +64,29 @@ abbrev pub Not-taken-for : {V : Type 0} → Fixed V → Contents → Cause → T
 Not-taken-for h m (Stream fault) = ⊥
 Not-taken-for h m (Manager fault) = Refused-for h m fault
 
--- a message is not taken: it is refused for what it asks, or there is no memory
+-- a message could be done: a submission whose task has no fault; a finish notice needs no memory
+abbrev pub Could-be-done : {V : Type 0} → Fixed V → Contents → Type 0
+Could-be-done h (submits name kind xs) = task-fault (h .held) xs ≡ None
+Could-be-done h (finishes seat) = ⊥
+
+-- a message is not taken: it is refused for what it asks, or, where it is not, there is no memory
 abbrev pub Not-taken : {V : Type 0} → Fixed V → Contents → End → Type 0
 Not-taken h m (Refused cause) = Not-taken-for h m cause
-Not-taken h m OutOfMemory = Unit {0}
+Not-taken h m OutOfMemory = Could-be-done h m
 
 -- the bytes at a place are refused: they are no message, or one that is refused for what it asks
 abbrev pub Ended-for : {V : Type 0} → Fixed V → List ℕ → ℕ → Cause → Type 0
 Ended-for h bytes place (Stream fault) = read place (drop place bytes) ≡ Err fault
 Ended-for h bytes place (Manager fault) = (m : Contents) × (rest : List ℕ) × (read place (drop place bytes) ≡ Ok (m, rest)) × Refused-for h m fault
 
--- a run ends at a place for this reason
+-- a message stands at a place
+abbrev pub Message-at : List ℕ → ℕ → Type 0
+Message-at bytes place = (m : Contents) × (rest : List ℕ) × (read place (drop place bytes) ≡ Ok (m, rest))
+
+-- a run ends at a place for this reason; for want of memory only where a message stands
 abbrev pub Ended : {V : Type 0} → Fixed V → List ℕ → ℕ → End → Type 0
 Ended h bytes place (Refused cause) = Ended-for h bytes place cause
-Ended h bytes place OutOfMemory = Unit {0}
+Ended h bytes place OutOfMemory = Message-at bytes place
 
 -- one message more: it stands at the place, which moves behind it, and it is done
 pub record Next {V : Type 0} (h : Fixed V) (bytes : List ℕ) (place place′ : ℕ) (ls ls′ : List (Line V)) (w w′ : Values V) : Type 0 where

@@ -39,7 +39,7 @@ pub fn run_stream<H: ReadBack>(heap: Global, host: &mut H, bytes: &[u8]) -> Jour
 }
 
 // Does the message at the place, which moves behind it, and notes what was done; or says why not, and the place stays.
-// Memory for the note is reserved first, so that a message that is done can always be noted.
+// Memory for the note is reserved before the message is done, so that what is done can always be noted.
 fn run_next<H: ReadBack>(
     heap: Global,
     host: &mut H,
@@ -50,7 +50,6 @@ fn run_next<H: ReadBack>(
     ensures fixed { λ _. ⌜ H·Host .fixed (now (host .exit)) ≡ H·Host .fixed (now (host .entry)) ⌝ }
     ensures cases { λ r. ⌜ Cases r (λ _. Next (H·Host .fixed (now (host .entry))) (now (bytes .entry)) (now (place .entry) .at) (now (place .exit) .at) (lines-of (vec-items (now (entries .entry)))) (lines-of (vec-items (now (entries .exit)))) (H·Host .values (now (host .entry))) (H·Host .values (now (host .exit)))) (λ e. Ended (H·Host .fixed (now (host .entry))) (now (bytes .entry)) (now (place .entry) .at) e × (now (place .exit) .at ≡ now (place .entry) .at) × (vec-items (now (entries .exit)) ≡ vec-items (now (entries .entry))) × (H·Host .values (now (host .exit)) ≡ H·Host .values (now (host .entry)))) ⌝ }
 {
-    entries.reserve(1)?;
     let old = place.at;
     let mut guard = PlaceGuard {
         place,
@@ -58,6 +57,7 @@ fn run_next<H: ReadBack>(
         accepted: false,
     };
     let message = read_message(bytes, guard.place)?;
+    entries.reserve(1)?;
     let entry = entry_of(heap, host, message)?;
     entries.push_reserved(entry);
     guard.accepted = true;

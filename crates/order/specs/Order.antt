@@ -34,7 +34,7 @@ pub record Sound {V : Type 0} (h : Fixed V) (j : Job) : Type 0 where
   pub held : All-held h (j .accesses)
   pub low : j .seat < seats
 
--- a task that stands in the way of a later one: it has steps left and conflicts with it
+-- an earlier task is out of the way of this one: if it has steps left, it does not conflict with it
 abbrev pub Out-of-the-way : {V : Type 0} → Job → Open V → Type 0
 Out-of-the-way j o = (o .left ≡ [] → ⊥) → conflict (o .job .accesses) (j .accesses) ≡ false
 
