@@ -107,6 +107,15 @@ Third-writer-stalls missing =
     run (over 64 3 2) (task (output 1 ∷ []) ∷ task (output 2 ∷ []) ∷ task (output 3 ∷ []) ∷ take ∷ step 0 ∷ finish 0 ∷ task (output 3 ∷ []) ∷ [])
     ≡ Ok (seated 0) ∷ Ok (seated 1) ∷ Err (Table (TooFewVersions missing)) ∷ Ok (taken 0 0 0) ∷ Ok (put-access 0) ∷ Ok (woke 0) ∷ Ok (seated 2) ∷ []
 
+-- one version: it is in use while a reader of what was written remains, also when the writer has ended; a writer of another address then
+-- misses so many
+abbrev pub Version-stays : ℕ → Type 0
+Version-stays missing =
+    run (over 64 3 1)
+    (task (output 5 ∷ []) ∷ task (input 5 ∷ []) ∷ take ∷ step 0 ∷ finish 0 ∷ task (output 6 ∷ []) ∷ take ∷ step 1 ∷ finish 1 ∷ task (output 6 ∷ []) ∷ [])
+    ≡ Ok (seated 0) ∷ Ok (seated 1) ∷ Ok (taken 0 0 0) ∷ Ok (put-access 0) ∷ Ok (woke 1) ∷ Err (Table (TooFewVersions missing)) ∷ Ok (taken 1 0 0)
+    ∷ Ok (brought-access 0) ∷ Ok (woke 0) ∷ Ok (seated 2) ∷ []
+
 -- one version place: inout 5 passes
 abbrev pub One-version : ℕ → Type 0
 One-version seat = run (over 64 3 1) (task (both 5 ∷ []) ∷ []) ≡ Ok (seated seat) ∷ []

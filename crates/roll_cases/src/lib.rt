@@ -1,5 +1,5 @@
 // Small runs of the calls, settled by computing the definitions. Each function answers the number that the case is about.
-ghost use Rattle.roll_cases.specs.Cases.{Fifteen-and-sixteen, Readers-wake, Third-waits, Last-held, Twice-refused, Nine-never-fit, Ninth-stalls, Third-writer-stalls, One-version, Bring-then-put, Stamps-left, Rehearsed};
+ghost use Rattle.roll_cases.specs.Cases.{Fifteen-and-sixteen, Readers-wake, Third-waits, Last-held, Twice-refused, Nine-never-fit, Ninth-stalls, Third-writer-stalls, Version-stays, One-version, Bring-then-put, Stamps-left, Rehearsed};
 
 // 15 accesses are accepted, on seat 0, and 16 are refused by 5.
 pub fn fifteen_and_sixteen_accesses() -> (u16, u8)
@@ -62,6 +62,14 @@ pub fn third_writer() -> u16
 {
     let missing = 1;
     missing
+}
+
+// A version is in use while a reader of what was written remains, also when its writer has ended: another writer misses one.
+pub fn version_of_a_reader() -> u16
+    ensures { λ r. ⌜ Version-stays r ⌝ }
+{
+    let still_missing = 1;
+    still_missing
 }
 
 // One version is enough for inout 5.

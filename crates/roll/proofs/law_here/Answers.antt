@@ -1,8 +1,5 @@
-use mathlib.Core.Path.{refl}
-use Rattle.order.proofs.Serial.{any-order}
-use Rattle.roll.proofs.Holds.{law}
 use Rattle.roll.proofs.law_here.Needs as need
 
--- src/lib.rt:16:1
+-- the law of every host, at this one
 pub returns : need.returns
-returns g c = record { law = law any-order _ _; value = refl }
+returns g c = record { law = c .serial-equivalence .ensures .law _ _; value = c .serial-equivalence .ensures .value }
