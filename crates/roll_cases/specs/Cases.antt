@@ -57,11 +57,11 @@ usual = over 64 256 512
 abbrev pub first-addresses : ℕ → List Access
 first-addresses n = map input (numbers 0 n)
 
--- 15 accesses are accepted on this seat, and 16 are refused by this number
+-- 15 accesses are accepted on this seat, and 16 are refused by this number, at place 0
 abbrev pub Fifteen-and-sixteen : ℕ → ℕ → Type 0
 Fifteen-and-sixteen seat number =
     (run usual (task (first-addresses 15) ∷ task (first-addresses 16) ∷ []) ≡ Ok (seated seat) ∷ Err TooManyAccesses ∷ [])
-    × (manager-number TooManyAccesses ≡ number)
+    × (manager-number TooManyAccesses ≡ number) × (manager-place TooManyAccesses ≡ 0)
 
 -- out 5, in 5, in 5, inout 5: finishing the first wakes so many, and the fourth waits for both readers
 abbrev pub Readers-wake : ℕ → Type 0
@@ -115,6 +115,12 @@ Version-stays missing =
     (task (output 5 ∷ []) ∷ task (input 5 ∷ []) ∷ take ∷ step 0 ∷ finish 0 ∷ task (output 6 ∷ []) ∷ take ∷ step 1 ∷ finish 1 ∷ task (output 6 ∷ []) ∷ [])
     ≡ Ok (seated 0) ∷ Ok (seated 1) ∷ Ok (taken 0 0 0) ∷ Ok (put-access 0) ∷ Ok (woke 1) ∷ Err (Table (TooFewVersions missing)) ∷ Ok (taken 1 0 0)
     ∷ Ok (brought-access 0) ∷ Ok (woke 0) ∷ Ok (seated 2) ∷ []
+
+-- without a seat no task fits; without a version only a task without accesses does, on this seat
+abbrev pub Empty-tables : ℕ → Type 0
+Empty-tables seat =
+    (run (over 64 0 512) (task [] ∷ []) ≡ Err (Table NeverFits) ∷ [])
+    × (run (over 64 3 0) (task (input 5 ∷ []) ∷ task [] ∷ []) ≡ Err (Table NeverFits) ∷ Ok (seated seat) ∷ [])
 
 -- one version place: inout 5 passes
 abbrev pub One-version : ℕ → Type 0

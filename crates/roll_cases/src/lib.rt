@@ -1,5 +1,5 @@
 // Small runs of the calls, settled by computing the definitions. Each function answers the number that the case is about.
-ghost use Rattle.roll_cases.specs.Cases.{Fifteen-and-sixteen, Readers-wake, Third-waits, Last-held, Twice-refused, Nine-never-fit, Ninth-stalls, Third-writer-stalls, Version-stays, One-version, Bring-then-put, Stamps-left, Rehearsed};
+ghost use Rattle.roll_cases.specs.Cases.{Fifteen-and-sixteen, Readers-wake, Third-waits, Last-held, Twice-refused, Nine-never-fit, Ninth-stalls, Third-writer-stalls, Version-stays, One-version, Empty-tables, Bring-then-put, Stamps-left, Rehearsed};
 
 // 15 accesses are accepted, on seat 0, and 16 are refused by 5.
 pub fn fifteen_and_sixteen_accesses() -> (u16, u8)
@@ -70,6 +70,14 @@ pub fn version_of_a_reader() -> u16
 {
     let still_missing = 1;
     still_missing
+}
+
+// Without a seat no task fits, and without a version only a task without accesses does.
+pub fn tables_without_seats_or_versions() -> u16
+    ensures { λ r. ⌜ Empty-tables r ⌝ }
+{
+    let first_seat = 0;
+    first_seat
 }
 
 // One version is enough for inout 5.
