@@ -1,4 +1,6 @@
 // The order of acceptance: the seats of the unfinished tasks, the first accepted first.
+#![tactic(auto)]
+
 mod methods;
 
 ghost use Rattle.std.specs.Prelude.{◌≡◌, ◌≤◌, vec_len};

@@ -1,5 +1,5 @@
 -- The first number at which a test holds, found by going up from 0. Assumes nothing.
-use Rattle.std.proofs.Common.{◌≡◌, ℕ, suc, ◌+◌, ◌-◌, ◌<◌, ◌≤◌, Bool, true, false, cond, Some, None, Option, sym, refl, ap, ◌∙◌, add-one, arith}
+use Rattle.std.proofs.Common.{◌≡◌, ℕ, suc, ◌+◌, ◌-◌, ◌<◌, ◌≤◌, Bool, true, false, cond, Some, None, sym, ap, ◌∙◌, add-one, arith}
 use Rattle.admission.specs.Admission.{first_from}
 
 module _ (p : ℕ → Bool) (i n : ℕ) (so_far : first_from p 0 n ≡ first_from p i (n - i)) where

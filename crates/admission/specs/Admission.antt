@@ -5,7 +5,7 @@
 --   repeated            the first access whose address occurs earlier in the task
 --   not_held            the first access whose address the host does not hold
 --   task_fault          the first of the three faults
-use Rattle.std.specs.Prelude.{ℕ, zero, suc, Bool, true, false, cond, not, List, [], ◌∷◌, length, take, Some, None, Ok, Err, Option, Result, nat_eq, nat_lt, slice_index_or}
+use Rattle.std.specs.Prelude.{ℕ, zero, suc, Bool, cond, not, List, length, take, Some, None, Ok, Err, Option, Result, nat_eq, nat_lt, slice_index_or}
 use Rattle.fault.specs.declared.ManagerFault.{ManagerFault}
 use Rattle.fault.specs.declared.ManagerFault.TheVariants.{TooManyAccesses, RepeatedAddress, NotHeld}
 use Rattle.task.specs.declared.Access.{Access}

@@ -1,4 +1,6 @@
 // Whether a task can be taken at all, before any table is looked at.
+#![tactic(auto)]
+
 ghost use Rattle.std.specs.Prelude.{◌≡◌, ◌≤◌, length};
 ghost use Rattle.task.specs.Limits.{max_accesses};
 ghost use Rattle.admission.specs.Admission.{occurs, repeated, not_held, task_fault, unless};

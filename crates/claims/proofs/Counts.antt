@@ -1,7 +1,7 @@
 -- How many accesses of a task wait, by the map of addresses: none exactly if no earlier task blocks it. Assumes nothing.
 use Rattle.std.proofs.Common.{◌≡◌, ℕ, suc, ◌+◌, Bool, true, false, not, ◌&&◌, ◌||◌, eqb, List, [], ◌∷◌, ◌++◌, sym, refl, ap, ◌∙◌, subst, ⊎_elim, zero-add, arith}
 use mathlib.Core.Path.{fun_ext}
-use mathlib.Core.Bool.{or_false}
+use mathlib.Core.Bool.{or-false}
 use Rattle.std.proofs.lemmas.Bool.{both_ways, or_parts, cases_eq, eqb-true, eqb-false, ne_eqb, eq-eqb}
 use Rattle.task.specs.declared.Access.{Access}
 use Rattle.task.specs.Access.{writes, keep}
@@ -117,7 +117,7 @@ stuck_one pre post t xs x np nq one =
     ∙ ap (λ n. tally (eqb t t && against (writes x) (onto (queue a pre) [])) + n) (stuck_none (claim t x ∷ onto (queue a pre) []) t (queue a post) (claims_queue t a post nq))
     ∙ (let z : tally (eqb t t && against (writes x) (onto (queue a pre) [])) ≡ tally (against (writes x) (queue a pre)) =
     ap (λ b. tally (b && against (writes x) (onto (queue a pre) []))) (eq-eqb t t refl)
-    ∙ ap tally (against_onto (writes x) (queue a pre) [] ∙ or_false (against (writes x) (queue a pre))) in omega (arith, z))
+    ∙ ap tally (against_onto (writes x) (queue a pre) [] ∙ or-false (against (writes x) (queue a pre))) in omega (arith, z))
 
 -- and so of some of its accesses
 stuck_some : (pre post : Roll) (t : ℕ) (xs vs : List Access) → AbsentSeat t pre → AbsentSeat t post → Singles t xs vs →

@@ -1,6 +1,6 @@
 -- What a roll uses of the tables: it follows its live addresses, and grows by what a task needs that enters at the end. Assumes nothing.
 use Rattle.std.proofs.Common.{◌≡◌, ℕ, ◌+◌, Bool, true, false, not, ◌&&◌, ◌||◌, eqb, List, [], ◌∷◌, ◌++◌, sym, refl, ap, ◌∙◌, ap₂, add-zero, add_assoc, zero-add}
-use mathlib.Core.Bool.{or_false}
+use mathlib.Core.Bool.{or-false}
 use Rattle.task.specs.declared.Access.{Access}
 use Rattle.task.specs.Access.{writes}
 use Rattle.admission.specs.Admission.{occurs}
@@ -53,7 +53,7 @@ live_before (t ∷ v) e a = live_before v (t ∷ e) a ∙ turn (live v a) (occur
 
 -- so a roll has the same live addresses the other way round
 before_alike : (v : Roll) → LiveAlike (before v []) v
-before_alike v a = live_before v [] a ∙ or_false (live v a)
+before_alike v a = live_before v [] a ∙ or-false (live v a)
 
 -- two rolls, one after the other
 used-++ : (e v u : Roll) → used e (v ++ u) ≡ used e v + used (before v e) u

@@ -1,4 +1,6 @@
 // The claims on each address in order of acceptance: which of them hold it and which wait, as definitions over the roll.
+#![tactic(auto)]
+
 ghost use Rattle.std.specs.Prelude.{◌≡◌, true};
 ghost use Rattle.claims.specs.Decided.{ClaimsDecide};
 

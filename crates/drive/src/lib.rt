@@ -1,4 +1,6 @@
 // Calls built of the manager's calls: a turn of one task, the work line and the notice line, and one message of a stream.
+#![tactic(auto)]
+
 mod fed;
 mod feeding;
 mod laws;

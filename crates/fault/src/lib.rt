@@ -1,5 +1,7 @@
 // What is refused, by layer: a fault of the message stream, of the tables, of the manager, and the cause for which a message is refused.
 // Each has a number and a place, and reads as a sentence.
+#![tactic(auto)]
+
 mod sentences;
 
 ghost use Rattle.std.specs.Prelude.{◌≡◌};

@@ -1,4 +1,6 @@
 // The host interface: where values live and work is done, stated by its meaning.
+#![tactic(auto)]
+
 pub mod seat_values;
 
 ghost use Rattle.std.specs.Prelude.{◌≡◌, ◌&&◌, ltb, if◌then◌else◌, Some, None, nat_lt};

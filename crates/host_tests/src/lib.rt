@@ -1,4 +1,6 @@
 // The two hosts, run on examples and at their limits.
+#![tactic(auto)]
+
 #[cfg(test)]
 mod stamps;
 #[cfg(test)]

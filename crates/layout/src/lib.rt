@@ -1,4 +1,6 @@
 // The layout of messages and what a reader makes of bytes, as definitions, and the law that ties the two.
+#![tactic(auto)]
+
 ghost use Rattle.std.specs.Prelude.{◌≡◌, true};
 ghost use Rattle.layout.specs.Agreement.{Agree};
 

@@ -1,7 +1,6 @@
 -- What a finish comes to, by the standing of the seat. Assumes nothing.
-use Rattle.std.proofs.Common.{◌≡◌, ℕ, true, false, List, [], ◌∷◌, Ok, Err, Result, sym, refl, ap, ◌∙◌, subst, arith}
+use Rattle.std.proofs.Common.{◌≡◌, ℕ, true, false, List, [], Ok, Err, Result, sym, refl, ap, ◌∙◌, subst, arith}
 use Rattle.fault.specs.declared.ManagerFault.{ManagerFault}
-use Rattle.fault.specs.declared.ManagerFault.TheVariants.{NotRunning, StepsLeft}
 use Rattle.task.specs.declared.Access.{Access}
 use Rattle.task.specs.Task.{accesses_of}
 use Rattle.order.specs.Steps.{Step}
@@ -16,7 +15,7 @@ use Rattle.manager.specs.declared.inner.Inner.{Inner}
 use Rattle.manager.specs.Model.{seat_at, roll_of, state_of}
 use Rattle.manager.specs.Answers.{no_values}
 use Rattle.manager.specs.Finished.{may_finish}
-use Rattle.manager.specs.Sound.{Seated, free_at, is_free}
+use Rattle.manager.specs.Sound.{Seated, is_free}
 use Rattle.manager.proofs.Seats.{roll_found, roll_none}
 
 module _ (i : Inner) (seated : Seated i) (s : ℕ) where

@@ -1,10 +1,10 @@
 -- A seat that has a task moves from one standing to another, with the same task. Assumes nothing.
 --   moved_roll      its entry on the roll is changed
 --   moved_sound     the fields still agree with one another
-use Rattle.std.proofs.Common.{◌≡◌, ℕ, ◌<◌, Bool, true, false, not, ◌&&◌, ltb, sym, refl, ap, ◌∙◌, subst, ap₂}
+use Rattle.std.proofs.Common.{◌≡◌, ℕ, ◌<◌, Bool, false, not, ◌&&◌, ltb, sym, refl, ap, ◌∙◌, subst}
 use Rattle.task.specs.declared.tasks.Task.{Task}
 use Rattle.task.specs.Task.{accesses_of}
-use Rattle.roll.specs.Roll.{Standing, Entry, Roll, stand, change}
+use Rattle.roll.specs.Roll.{Roll, stand, change}
 use Rattle.roll.specs.Tables.{tally}
 use Rattle.ring.specs.declared.Ring.{Ring}
 use Rattle.ring.specs.Model.{contents_of}
@@ -15,7 +15,7 @@ use Rattle.tracker.specs.Tracked.{Tracked}
 use Rattle.manager.specs.declared.inner.Inner.{Inner}
 use Rattle.manager.specs.Lines.{occurrences}
 use Rattle.manager.specs.Model.{seat_at, entry_of, roll_of}
-use Rattle.manager.specs.Sound.{Sound, Seated, is_free, is_waiting, free_at, waiting_at, ready_at}
+use Rattle.manager.specs.Sound.{Sound, is_free, is_waiting, free_at, waiting_at, ready_at}
 use Rattle.manager.proofs.Seats.{seat_listed, seat_low, roll_changed, bares_same}
 use Rattle.manager.proofs.Records.{with_record, record_set, record_other, each_record}
 

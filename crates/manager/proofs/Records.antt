@@ -3,9 +3,8 @@
 --   record_back     where the record is the one that was there, nothing has changed
 --   seat_read       a record that was read is the one of the seat
 --   record_set, record_other, each_record    the records after it
-use Rattle.std.proofs.Common.{◌≡◌, ℕ, zero, suc, ◌^◌, ◌<◌, ◌≤◌, Bool, List, [], ◌∷◌, length, get_or, set, vec_items, vec_len, Vec, sym, refl, ap, ◌∙◌, inl, inr, le_of_suc-le-suc, not-suc-le-zero, arith}
+use Rattle.std.proofs.Common.{◌≡◌, ℕ, zero, suc, ◌<◌, Bool, List, [], ◌∷◌, length, get_or, set, vec_items, vec_len, Vec, sym, refl, ap, ◌∙◌, inl, inr, le_of_suc-le-suc, not-suc-le-zero, arith}
 use mathlib.Core.HLevel.{is_prop→PathP}
-use native.Mathlib.Bridge.{le_prop}
 use native.Mathlib.Nat.{ℕ_set}
 use lib.Seq.{set-get_or}
 use Rattle.std.specs.Vec.{with_item}

@@ -2,13 +2,13 @@
 --   roll_found, roll_none       what the roll has for a seat
 --   seat_set, seat_other        the records after one is replaced
 --   roll_changed, bares_same    the roll after one record's standing changed
-use Rattle.std.proofs.Common.{◌≡◌, ℕ, ◌<◌, Bool, true, false, not, List, [], ◌∷◌, ◌++◌, map, length, set, Some, None, vec_items, vec_len, Option, sym, refl, ap, ◌∙◌, ap₂, arith, get_or-set_other, get_or-set_same}
+use Rattle.std.proofs.Common.{◌≡◌, ℕ, ◌<◌, true, false, not, List, map, length, set, Some, None, vec_items, vec_len, sym, refl, ap, ◌∙◌, arith, get_or-set_other, get_or-set_same}
 use Rattle.acceptance.specs.declared.Acceptance.{Acceptance}
 use Rattle.acceptance.specs.Listed.{member, listed}
 use Rattle.acceptance.proofs.Laws.{before_place, listed_apart, listed_low}
 use Rattle.claims.specs.Queues.{bares}
 use Rattle.claims.proofs.Alike.{bares_change}
-use Rattle.roll.specs.Roll.{Standing, Entry, Roll, stand, find, change}
+use Rattle.roll.specs.Roll.{Standing, Entry, stand, find, change}
 use Rattle.seat.specs.declared.seats.Seat.{Seat}
 use Rattle.manager.specs.declared.inner.Inner.{Inner}
 use Rattle.manager.specs.Model.{vacant, seat_at, entry_of, roll_of}

@@ -1,8 +1,8 @@
 -- The next step of a seat's record, as its entry on the roll has it. Assumes nothing.
 --   bring_next, put_next    a record that has a bring or a put to do, before and after its step
-use Rattle.std.proofs.Common.{◌≡◌, ℕ, true, List, [], ◌∷◌, length, Some, None, Option, sym, refl, ap, ◌∙◌, arith}
+use Rattle.std.proofs.Common.{◌≡◌, ℕ, true, List, ◌∷◌, length, Some, None, sym, refl, ap, ◌∙◌, arith}
 use Rattle.task.specs.declared.Access.{Access}
-use Rattle.task.specs.Access.{Numbered, readers}
+use Rattle.task.specs.Access.{readers}
 use Rattle.order.specs.Steps.{Step, bring, put}
 use Rattle.roll.specs.Roll.{running}
 use Rattle.seat.specs.declared.Phase.TheVariants.{Bring, Put, Done}

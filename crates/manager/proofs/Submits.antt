@@ -3,10 +3,10 @@
 --   check_refuses       the fault of the task itself
 --   seat_refuses        the fault of the tables
 --   seat_gives          no fault, and the first free seat
-use Rattle.std.proofs.Common.{◌≡◌, ℕ, zero, suc, ◌+◌, ◌<◌, ◌≤◌, Bool, true, false, cond, ◌||◌, eqb, ltb, List, [], ◌∷◌, length, take, Some, None, Ok, Err, Option, Result, sym, refl, ap, ◌∙◌, subst, arith}
+use Rattle.std.proofs.Common.{◌≡◌, ℕ, zero, suc, ◌+◌, ◌<◌, ◌≤◌, Bool, true, false, cond, eqb, ltb, List, [], ◌∷◌, length, take, Some, None, Ok, Err, Option, refl, ap, ◌∙◌, subst, arith}
 use Rattle.std.proofs.lemmas.Bool.{or_parts, or_from}
 use Rattle.fault.specs.declared.TableFault.{TableFault}
-use Rattle.fault.specs.declared.TableFault.TheVariants.{NeverFits, NoFreeSeat}
+use Rattle.fault.specs.declared.TableFault.TheVariants.{NeverFits}
 use Rattle.fault.specs.declared.ManagerFault.{ManagerFault}
 use Rattle.fault.specs.declared.ManagerFault.TheVariants.{Table, TooManyAccesses, RepeatedAddress, NotHeld}
 use Rattle.task.specs.declared.Access.{Access}
@@ -14,8 +14,7 @@ use Rattle.task.specs.Limits.{max_accesses}
 use Rattle.admission.specs.Admission.{first_from, address_at, occurs, repeated, not_held, fault_at, task_fault, unless}
 use Rattle.manager.proofs.Rolls.{eqb_flip}
 use Rattle.claims.specs.Queues.{Apart}
-use Rattle.roll.specs.Roll.{Roll}
-use Rattle.roll.specs.Tables.{Tables, never_fits, stall, by_tables, or_else, lasting_fault, submit_fault}
+use Rattle.roll.specs.Tables.{Tables, never_fits, stall, by_tables, or_else, submit_fault}
 use Rattle.roll.specs.Calls.{State, Outcome, refused, succeeded, give_seat, submitted, accepted}
 use Rattle.host.specs.Meaning.{Values}
 use Rattle.manager.specs.declared.inner.Inner.{Inner}

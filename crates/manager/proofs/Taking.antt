@@ -2,12 +2,12 @@
 --   first_ready     the first of the ready line is ready
 --   line_taken      the line behind it has the other ready seats
 --   took_ready      what a take of it comes to
-use Rattle.std.proofs.Common.{◌≡◌, ℕ, ◌+◌, ◌<◌, Bool, true, false, eqb, List, [], ◌∷◌, Some, None, Option, sym, refl, ap, ◌∙◌, ap₂, inl, inr, arith}
+use Rattle.std.proofs.Common.{◌≡◌, ℕ, ◌+◌, ◌<◌, Bool, true, false, eqb, List, ◌∷◌, Some, sym, refl, ap, ◌∙◌, ap₂, inl, inr, arith}
 use Rattle.std.proofs.lemmas.Bool.{eq-eqb, ne_eqb, cases_eq}
 use Rattle.order.specs.Steps.{steps}
-use Rattle.roll.specs.Roll.{Standing, ready, running, Entry, find, change}
+use Rattle.roll.specs.Roll.{ready, running, Entry, find, change}
 use Rattle.roll.specs.Tables.{tally}
-use Rattle.roll.specs.Calls.{State, Outcome, succeeded, taken, took, begun, begun_at}
+use Rattle.roll.specs.Calls.{State, succeeded, taken, took, begun, begun_at}
 use Rattle.ring.specs.declared.Ring.{Ring}
 use Rattle.ring.specs.Model.{contents_of}
 use Rattle.seat.specs.declared.Standing.TheVariants.{Free, Waiting, Ready, Running}

@@ -4,7 +4,7 @@
 --   Decides                  a test says of each listed seat whether an earlier task blocks it
 --   wake_map, woken_kept     the roll with the tasks ready that become so, and their seats
 use Rattle.std.proofs.Common.{◌≡◌, ℕ, suc, ◌≤◌, Bool, true, false, cond, not, ◌||◌, eqb, List, [], ◌∷◌, ◌++◌, map, length, sym, refl, ap, ◌∙◌, ap₂, arith}
-use mathlib.Core.Bool.{or_false}
+use mathlib.Core.Bool.{or-false}
 use Rattle.std.proofs.lemmas.Bool.{eqb-true, eq-eqb, or_left, or_right, both_ways}
 use Rattle.task.specs.declared.Access.{Access}
 use Rattle.task.specs.Access.{conflict}
@@ -90,7 +90,7 @@ Decides f idle earlier l =
 
 -- so of the first, and of the others behind it
 decides_first : (f : ℕ → Entry) (idle : ℕ → Bool) (earlier : Roll) (x : ℕ) (l : List ℕ) → Decides f idle earlier (x ∷ l) → blocked earlier (f x).job.accesses ≡ not (idle x)
-decides_first f idle earlier x l h = sym (or_false (blocked earlier (f x).job.accesses)) ∙ h [] l x refl
+decides_first f idle earlier x l h = sym (or-false (blocked earlier (f x).job.accesses)) ∙ h [] l x refl
 
 decides_more : (f : ℕ → Entry) (idle : ℕ → Bool) (earlier : Roll) (x : ℕ) (l : List ℕ) → Decides f idle earlier (x ∷ l) → Decides f idle (f x ∷ earlier) l
 decides_more f idle earlier x l h pre post t e =

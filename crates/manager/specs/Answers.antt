@@ -1,5 +1,5 @@
 -- What the manager's calls answer, by the outcome of the call; and the state of a manager without regard to a host. Assumes nothing.
-use Rattle.std.specs.Prelude.{ℕ, true, List, Ok, Err, Result}
+use Rattle.std.specs.Prelude.{ℕ, true, Ok, Err, Result}
 use Rattle.fault.specs.declared.ManagerFault.{ManagerFault}
 use Rattle.host.specs.Meaning.{Fixed, Values}
 use Rattle.roll.specs.Calls.{Setting, State, Answer, seated, taken, brought_access, put_access, woke, Outcome, refused, succeeded}

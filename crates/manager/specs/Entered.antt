@@ -1,5 +1,5 @@
 -- Why the tables do not take a task, and the seat that it gets if they do. Assumes nothing.
-use Rattle.std.specs.Prelude.{◌≡◌, ℕ, true, false, cond, eqb, List, [], ◌∷◌, Some, None, Ok, Err, Option, Result}
+use Rattle.std.specs.Prelude.{ℕ, cond, List, [], ◌∷◌, Some, None, Ok, Err, Option, Result}
 use Rattle.fault.specs.declared.TableFault.{TableFault}
 use Rattle.fault.specs.declared.TableFault.TheVariants.{NeverFits, NoFreeSeat}
 use Rattle.task.specs.declared.Access.{Access}

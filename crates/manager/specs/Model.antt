@@ -9,7 +9,6 @@ use Rattle.std.specs.Prelude.{ℕ, ◌%◌, List, map, replicate, vec_items, sli
 use Rattle.std.proofs.Common.{lit≤}
 use Rattle.task.specs.Task.{accesses_of}
 use Rattle.host.specs.Meaning.{Fixed, Values}
-use Rattle.order.specs.Steps.{Job}
 use Rattle.roll.specs.Roll.{Entry, Roll}
 use Rattle.roll.specs.Tables.{Tables, sets}
 use Rattle.roll.specs.Calls.{Setting, State}

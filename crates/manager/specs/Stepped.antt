@@ -1,9 +1,9 @@
 -- What a step makes of one seat's entry: its answer, the standing after it, and the host's values after it. Assumes nothing.
-use Rattle.std.specs.Prelude.{ℕ, List, [], ◌∷◌, Ok, Err, Result}
+use Rattle.std.specs.Prelude.{ℕ, [], ◌∷◌, Ok, Err, Result}
 use Rattle.fault.specs.declared.ManagerFault.{ManagerFault}
 use Rattle.fault.specs.declared.ManagerFault.TheVariants.{NotRunning, NoStepLeft}
 use Rattle.host.specs.Meaning.{Fixed, Values}
-use Rattle.order.specs.Steps.{Step, Job, done}
+use Rattle.order.specs.Steps.{Job, done}
 use Rattle.roll.specs.Roll.{Standing, waiting, ready, running}
 use Rattle.roll.specs.Calls.{said}
 use Rattle.manager.specs.Answers.{step_pair}

@@ -7,7 +7,7 @@ use host::ReadBack;
 use manager::Manager;
 use message::Reader;
 use queue::{Line, Notice};
-use runs::{Answer, AnswerPartialEq, Call, new_manager, perform, run_calls};
+use runs::{Answer, Call, new_manager, perform, run_calls};
 use stamp_host::StampHost;
 use std::str::SplitWhitespace;
 use task::Access;

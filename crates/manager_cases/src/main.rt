@@ -1,6 +1,8 @@
 // Runs calls on managers: each line of standard input is a case, a label, the numbers of seats, versions and stamps, the numbers of slots
 // of the work line and of the notice line, and the calls. Prints the label and what each call answers; at the end the stamps that are not
 // zero, and, where a case has none but the four calls, whether `run_calls` answers the same and leaves the same stamps.
+#![tactic(auto)]
+
 mod asked;
 mod case;
 mod shown;

@@ -1,5 +1,5 @@
 -- The numbers of a run of bytes are bytes. Assumes nothing.
-use Rattle.std.proofs.Common.{◌≡◌, ℕ, zero, suc, ◌+◌, ◌<◌, List, [], ◌∷◌, get_or, drop, get_or-drop}
+use Rattle.std.proofs.Common.{ℕ, suc, ◌+◌, ◌<◌, List, [], ◌∷◌, get_or, drop, get_or-drop}
 use Rattle.layout.specs.Agreement.{Bytes}
 
 -- a list that has a byte at every place is one of bytes

@@ -1,5 +1,5 @@
 -- The first two bytes of a message, and what is read behind them; how many bytes a submission has. Assumes nothing.
-use Rattle.std.proofs.Common.{◌≡◌, ℕ, suc, ◌+◌, ◌-◌, ◌*◌, ◌<◌, ◌≤◌, List, [], ◌∷◌, ◌++◌, length, get_or, take, drop, sym, refl, ap, ◌∙◌, add-one, arith, length-append, length-drop, length-take, drop-cons}
+use Rattle.std.proofs.Common.{◌≡◌, ℕ, suc, ◌+◌, ◌-◌, ◌*◌, ◌≤◌, List, [], ◌∷◌, ◌++◌, length, get_or, take, drop, refl, ap, ◌∙◌, arith, length-append, length-drop, length-take, drop-cons}
 use Rattle.task.specs.declared.Access.{Access}
 use Rattle.layout.specs.Layout.{address_bytes, direction_bytes}
 use Rattle.message.proofs.Numbers.{rest_is}

@@ -1,8 +1,8 @@
 -- The fields of numbers: what the reader makes of the bytes at a place, and what bytes write. Assumes nothing.
-use Rattle.std.proofs.Common.{◌≡◌, ℕ, suc, ◌+◌, ◌-◌, ◌*◌, ◌<◌, ◌≤◌, true, false, cond, ltb, List, [], ◌∷◌, length, get_or, take, drop, Ok, Err, sym, refl, ap, ◌∙◌, add-one, arith, length-drop, take_all, drop-cons, drop-drop, rules}
+use Rattle.std.proofs.Common.{◌≡◌, ℕ, ◌+◌, ◌-◌, ◌*◌, ◌<◌, ◌≤◌, true, false, ltb, List, [], ◌∷◌, length, get_or, take, drop, Ok, Err, sym, ap, ◌∙◌, add-one, arith, length-drop, take_all, drop-cons, drop-drop}
 use Rattle.std.proofs.lemmas.List.{drop_all}
 use Rattle.fault.specs.declared.StreamFault.TheVariants.{BeyondEnd}
-use Rattle.layout.specs.Reading.{Read, value, number}
+use Rattle.layout.specs.Reading.{value, number}
 
 -- the rest of the bytes from a place on, as the code has it
 pub rest_is : (at : ℕ) (bytes : List ℕ) → take (length bytes - at) (drop at bytes) ≡ drop at bytes

@@ -1,5 +1,5 @@
 -- A list that is read one element after another: what was read stands before what is left. Assumes nothing.
-use Rattle.std.proofs.Common.{◌≡◌, ℕ, zero, suc, ◌+◌, ◌-◌, List, [], ◌∷◌, ◌++◌, Ok, Err, Result, sym, refl, ap, ◌∙◌, append_assoc, append-nil}
+use Rattle.std.proofs.Common.{◌≡◌, ℕ, suc, ◌+◌, List, [], ◌∷◌, ◌++◌, Ok, Err, sym, refl, ap, ◌∙◌, append_assoc, append-nil}
 use Rattle.fault.specs.declared.StreamFault.{StreamFault}
 use Rattle.task.specs.declared.Access.{Access}
 use Rattle.task.specs.declared.Direction.{Direction}

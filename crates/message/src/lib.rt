@@ -1,4 +1,6 @@
 // Messages of the planner, and a reader over a run of bytes.
+#![tactic(auto)]
+
 mod fields;
 mod guard;
 mod lists;

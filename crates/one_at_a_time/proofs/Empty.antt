@@ -1,5 +1,5 @@
 -- A `Vec` of length 0 has no items. Assumes nothing.
-use Rattle.std.proofs.Common.{◌≡◌, ℕ, suc, List, [], ◌∷◌, length, vec_items, vec_len, Vec, sym, refl, ◌∙◌, arith}
+use Rattle.std.proofs.Common.{◌≡◌, suc, List, [], ◌∷◌, length, vec_items, vec_len, Vec, sym, refl, ◌∙◌, arith}
 use Rattle.std.specs.declared.alloc.Global.{Global}
 
 -- a list of length 0 is empty

@@ -1,6 +1,6 @@
 -- Putting the writing accesses one after another: what is left from here comes to what all comes to from the start.
 -- Assumes nothing.
-use Rattle.std.proofs.Common.{◌≡◌, ℕ, List, [], ◌∷◌, ◌++◌, map, sym, refl, ap, ◌∙◌, append_assoc, append-nil}
+use Rattle.std.proofs.Common.{◌≡◌, ℕ, List, [], ◌∷◌, ◌++◌, map, sym, ap, ◌∙◌, append_assoc, append-nil}
 use Rattle.task.specs.Access.{Numbered}
 use Rattle.host.specs.Meaning.{Fixed, Values, update, row, worked}
 use Rattle.one_at_a_time.specs.Alone.{written}

@@ -4,7 +4,7 @@
 --   journal     the lines of a list of messages
 --   run         the value at each address afterwards
 --   run_all     all of a host's values afterwards
-use Rattle.std.specs.Prelude.{ℕ, List, [], ◌∷◌, ◌++◌, map}
+use Rattle.std.specs.Prelude.{ℕ, List, [], ◌∷◌, ◌++◌}
 use Rattle.task.specs.declared.Access.{Access}
 use Rattle.host.specs.Meaning.{Fixed, Values}
 use Rattle.layout.specs.Layout.{Contents, submits, finishes, layout}

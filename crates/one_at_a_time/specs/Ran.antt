@@ -1,10 +1,8 @@
 -- What the code answers, in the words of the one-at-a-time run. Assumes nothing.
 use Rattle.std.specs.Prelude.{◌≡◌, ℕ, ◌+◌, List, [], ◌∷◌, ◌++◌, map, length, drop, Some, None, Ok, Err, vec_items}
 use Rattle.fault.specs.declared.ManagerFault.{ManagerFault}
-use Rattle.fault.specs.declared.StreamFault.{StreamFault}
 use Rattle.fault.specs.declared.Cause.{Cause}
 use Rattle.fault.specs.declared.Cause.TheVariants.{Stream, Manager}
-use Rattle.task.specs.declared.Access.{Access}
 use Rattle.task.specs.declared.tasks.Task.{Task}
 use Rattle.task.specs.Task.{accesses_of}
 use Rattle.host.specs.Meaning.{Fixed, Values}

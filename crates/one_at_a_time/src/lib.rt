@@ -1,4 +1,6 @@
 // Tasks done one at a time: each from its first step to its last before the next begins.
+#![tactic(auto)]
+
 mod alone;
 mod journal;
 mod stream;

@@ -1,4 +1,6 @@
 // Steps of several tasks in any order in which a task's steps come after those of each earlier task that it conflicts with.
+#![tactic(auto)]
+
 ghost use Rattle.std.specs.Prelude.{◌≡◌, true};
 ghost use Rattle.order.specs.Order.{AnyOrderIsSerial};
 

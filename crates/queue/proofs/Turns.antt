@@ -1,6 +1,6 @@
 -- A slot that is written past the last element, and the head that moves on. Assumes nothing.
-use Rattle.std.proofs.Common.{◌≡◌, ℕ, suc, ◌+◌, ◌-◌, ◌<◌, ◌≤◌, List, [], ◌∷◌, ◌++◌, length, get_or, take, drop, set, sym, refl, ap, ◌∙◌, append_assoc, append-nil, add-one, arith, length-append, length-drop, length-take, take_all, drop-cons, take-suc, drop-set-lt}
-use lib.Seq.{take-set-le, take-set-lt, drop-set-add, set-append_left, take-append-le, drop-length}
+use Rattle.std.proofs.Common.{◌≡◌, ℕ, suc, ◌+◌, ◌-◌, ◌<◌, ◌≤◌, List, [], ◌∷◌, ◌++◌, length, get_or, take, drop, set, sym, ap, ◌∙◌, append_assoc, append-nil, arith, length-append, length-drop, length-take, take_all, drop-cons, take-suc, drop-set-lt}
+use lib.Seq.{take-set-le, take-set-lt, drop-set-add, set-append_left, take-append-le}
 use Rattle.std.proofs.lemmas.List.{set-append_right, take_more_set, drop_all}
 use Rattle.queue.specs.Contents.{turned, contents}
 

@@ -1,5 +1,5 @@
 -- What stands in slots that are used as a ring: some elements from a slot on, round the end of the slots. Assumes nothing.
-use Rattle.std.specs.Prelude.{ℕ, ◌+◌, ◌-◌, cond, List, ◌++◌, length, take, drop, nat_lt}
+use Rattle.std.specs.Prelude.{ℕ, ◌+◌, ◌-◌, cond, List, ◌++◌, take, drop, nat_lt}
 
 -- the slots from head on, and then those before head
 abbrev pub turned : {X : Type 0} → List X → ℕ → List X

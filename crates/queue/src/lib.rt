@@ -1,5 +1,7 @@
 // A line: first in, first out, over slots that are handed over, for every element that can be copied. The work line carries seats out to
 // the workers, the notice line carries their notices back.
+#![tactic(auto)]
+
 mod methods;
 
 ghost use Rattle.std.specs.Prelude.{ℕ, ◌-◌, ◌≤◌, length};

@@ -1,4 +1,6 @@
 // Reads messages from standard input, does their submissions on a manager over 64 zero stamps, and prints a line for each event.
+#![tactic(auto)]
+
 use rehearse_run::MAX_INPUT;
 use std::env;
 use std::io::Read;

@@ -1,6 +1,8 @@
 // Runs `rehearse` on many streams: each line of standard input is a case, a label, how often its bytes are repeated, and the bytes in
 // hexadecimal (or - for none). Prints the label and what `rehearse` prints; and where that ends with `end`, whether the stamps are those
 // that `serial` leaves.
+#![tactic(auto)]
+
 use anyhow::Context;
 use host::ReadBack;
 use rehearse_run::{Line, Rehearsal};

@@ -7,7 +7,7 @@ use Rattle.layout.specs.Layout.{Contents, submits, finishes, layout}
 use Rattle.layout.specs.Reading.{Read, read}
 use Rattle.roll.specs.Calls.{Setting, State, Outcome, refused, succeeded, perform}
 use Rattle.roll.specs.Built.{left_by, state_after, turn_calls, turn_answer, asked, feed_calls, feed_from, feed_answer, fed_from, moved_past, place_from, fed_place, Fed, submitted_to, finished_with, FeedFailure}
-use Rattle.roll.specs.Rehearsal.{Line, refusal, end, turned, drained, stalling, by_feed, rehearsed}
+use Rattle.roll.specs.Rehearsal.{Line, refusal, turned, drained, stalling, by_feed, rehearsed}
 use Rattle.rehearse_run.specs.Ends.{Ends}
 use Rattle.rehearse_run.proofs.Shrinks.{not_ok, asked_more, turn_shrinks}
 

@@ -1,5 +1,7 @@
 // The job of the program `rehearse`: the submissions of a stream on a manager over 64 zero stamps, a turn wherever one stalls, and turns
 // until no task is unfinished.
+#![tactic(auto)]
+
 mod line;
 mod rounds;
 

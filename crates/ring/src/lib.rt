@@ -1,4 +1,6 @@
 // A ring: first in, first out, in 256 places of its own, for every element that can be copied.
+#![tactic(auto)]
+
 mod copies;
 mod methods;
 

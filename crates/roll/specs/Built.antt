@@ -6,17 +6,15 @@
 --   dispatch_calls, dispatch_answer, dispatched   a ready task's seat goes into the work line
 --   settle_calls, settle_answer, settled          the first notice of the notice line is removed, and its seat finished
 --   feed_calls, feed_answer, fed_place            one message is read, and makes its submit or its finish
-use Rattle.std.specs.Prelude.{ℕ, zero, suc, ◌+◌, Bool, true, false, cond, List, [], ◌∷◌, ◌++◌, length, drop, Some, None, Ok, Err, Option, Result}
-use Rattle.fault.specs.declared.StreamFault.{StreamFault}
+use Rattle.std.specs.Prelude.{ℕ, zero, suc, ◌+◌, Bool, cond, List, [], ◌∷◌, ◌++◌, length, drop, Some, None, Ok, Err, Option, Result}
 use Rattle.fault.specs.declared.ManagerFault.{ManagerFault}
 use Rattle.fault.specs.declared.ManagerFault.TheVariants.{LineEmpty, LineFull}
 use Rattle.fault.specs.declared.Cause.{Cause}
 use Rattle.fault.specs.declared.Cause.TheVariants.{Stream, Manager}
 use Rattle.layout.specs.Layout.{Contents, submits, finishes, layout}
 use Rattle.layout.specs.Reading.{Read, read}
-use Rattle.order.specs.Steps.{Step}
-use Rattle.roll.specs.Roll.{Standing, waiting, ready, running, Entry, Roll, find}
-use Rattle.roll.specs.Calls.{Setting, State, Call, submit, take, step, finish, Answer, seated, taken, brought_access, put_access, woke, Success, Outcome, refused, succeeded, perform}
+use Rattle.roll.specs.Roll.{Standing, waiting, ready, running, Entry, find}
+use Rattle.roll.specs.Calls.{Setting, State, Call, submit, take, step, finish, Answer, seated, taken, brought_access, put_access, woke, Outcome, refused, succeeded, perform}
 
 -- the state after a call, which a refusal leaves as it was, and after a list of calls
 abbrev pub left_by : {V : Type 0} → State V → Outcome V → State V

@@ -11,8 +11,8 @@ use Rattle.task.specs.Access.{readers, writers}
 use Rattle.host.specs.Meaning.{Fixed, Values, update}
 use Rattle.one_at_a_time.specs.Alone.{values_read, alone}
 use Rattle.order.specs.Steps.{Job}
-use Rattle.roll.specs.Roll.{Entry, Roll}
-use Rattle.roll.specs.Calls.{Setting, State, Call, submit, take, step, finish, Answer, seated, taken, brought_access, put_access, woke, Success, Outcome, refused, succeeded, perform, made}
+use Rattle.roll.specs.Roll.{Roll}
+use Rattle.roll.specs.Calls.{Setting, State, Call, submit, take, step, finish, Answer, seated, taken, brought_access, put_access, woke, Outcome, refused, succeeded, perform, made}
 
 -- the one-at-a-time run: at an accepted submission the task runs alone, and every other call changes nothing
 abbrev pub fed : {V : Type 0} → Fixed V → Call → Bool → (ℕ → V) → ℕ → V

@@ -3,7 +3,6 @@ use Rattle.std.specs.Prelude.{◌≡◌, ℕ, ◌<◌, ◌≤◌, true, ◌↔�
 use Rattle.fault.specs.Numbers.{manager_number}
 use Rattle.task.specs.declared.Access.{Access}
 use Rattle.host.specs.Meaning.{Fixed, Values}
-use Rattle.order.specs.Steps.{Job}
 use Rattle.roll.specs.Roll.{Roll}
 use Rattle.order.specs.Order.{nth}
 use Rattle.roll.specs.Calls.{Setting, setting, Call, submit, Outcome, refused, succeeded, perform}

@@ -1,4 +1,6 @@
 // The roll and its calls as definitions, and the law over runs.
+#![tactic(auto)]
+
 ghost use Rattle.std.specs.Prelude.{◌≡◌, true};
 ghost use Rattle.roll.specs.Law.{Law, LawOf};
 

@@ -1,18 +1,17 @@
 -- Small runs of the calls, settled by computing the definitions. Assumes nothing.
-use Rattle.std.specs.Prelude.{◌≡◌, ℕ, ◌*◌, List, [], ◌∷◌, ◌++◌, map, Ok, Err, Result, slice_index}
+use Rattle.std.specs.Prelude.{◌≡◌, ℕ, ◌*◌, List, [], ◌∷◌, map, Ok, Err, Result, slice_index}
 use Rattle.fault.specs.declared.TableFault.TheVariants.{NeverFits, TooFewVersions, SetFull}
 use Rattle.fault.specs.declared.ManagerFault.{ManagerFault}
 use Rattle.fault.specs.declared.ManagerFault.TheVariants.{TooManyAccesses, RepeatedAddress, NotHeld, Table, NoStepLeft, StepsLeft, LineEmpty}
 use Rattle.fault.specs.Numbers.{manager_number, manager_place}
 use Rattle.task.specs.declared.Access.{Access}
 use Rattle.task.specs.declared.Direction.TheVariants.{In, Out, InOut}
-use Rattle.host.specs.Meaning.{Values}
 use Rattle.stamp_host.specs.Stamps.{fixed_for, all_zero}
-use Rattle.layout.specs.Layout.{Contents, submits, layout}
+use Rattle.layout.specs.Layout.{Contents, submits}
 use Rattle.one_at_a_time.specs.Journal.{stream}
 use Rattle.roll.specs.Calls.{Setting, setting, State, Call, submit, take, step, finish, Answer, seated, taken, brought_access, put_access, woke, Outcome, refused, succeeded, perform, made, numbers}
 use Rattle.roll.specs.Built.{left_by, state_after}
-use Rattle.roll.specs.Rehearsal.{Line, sub, ran, end, rehearsed}
+use Rattle.roll.specs.Rehearsal.{sub, ran, end, rehearsed}
 
 -- an access that reads an address, that writes it, that does both
 abbrev pub input : ℕ → Access

@@ -1,4 +1,6 @@
 // Small runs of the calls, settled by computing the definitions. Each function answers the number that the case is about.
+#![tactic(auto)]
+
 ghost use Rattle.roll_cases.specs.Cases.{FifteenAndSixteen, ReadersWake, ThirdWaits, LastHeld, TwiceRefused, NineNeverFit, NinthStalls, ThirdWriterStalls, VersionStays, OneVersion, EmptyTables, BringThenPut, StampsLeft, HeldAside, SeatAgain, Rehearsed};
 
 // 15 accesses are accepted, on seat 0, and 16 are refused by 5.

@@ -1,12 +1,11 @@
 -- The history of a list of calls has the state that the calls leave, one after the other; so the law holds of every run.
-use Rattle.std.proofs.Common.{◌≡◌, List, [], ◌∷◌, sym, refl, ap, ◌∙◌}
-use Rattle.host.specs.Meaning.{Values}
+use Rattle.std.proofs.Common.{◌≡◌, List, [], ◌∷◌, refl, ap, ◌∙◌}
 use Rattle.order.proofs.Serial.{any_order}
-use Rattle.roll.specs.Calls.{Setting, setting, State, Call, submit, take, step, finish, Outcome, refused, succeeded, perform, made}
+use Rattle.roll.specs.Calls.{Setting, setting, Call, submit, take, step, finish, Outcome, refused, succeeded, perform}
 use Rattle.roll.specs.Built.{left_by, state_after}
 use Rattle.roll.specs.History.{History, noted, next, after, beginning}
 use Rattle.roll.proofs.Holds.{law as runs-law}
-use Rattle.runs.specs.Obeys.{Lawful, Obeys, AllObey}
+use Rattle.runs.specs.Obeys.{AllObey}
 
 -- a call that is noted leaves the state of its outcome
 noted_state : {V : Type 0} (m : Setting V) (h : History V) (c : Call) (o : Outcome V) → (noted m h c o).state ≡ left_by h.state o

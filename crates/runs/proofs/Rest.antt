@@ -1,6 +1,6 @@
 -- Calls in turn: after one of them, the answers so far and those of the calls that are left come to the same as before it, and so does
 -- the state that the calls leave in the end.
-use Rattle.std.proofs.Common.{◌≡◌, ℕ, suc, ◌+◌, ◌<◌, ◌≤◌, List, [], ◌∷◌, ◌++◌, length, get_or, drop, Result, sym, refl, ap, ◌∙◌, append-nil, add-one, drop-cons}
+use Rattle.std.proofs.Common.{◌≡◌, ℕ, ◌+◌, ◌<◌, ◌≤◌, List, [], ◌∷◌, ◌++◌, length, get_or, drop, Result, sym, ap, ◌∙◌, append-nil, add-one, drop-cons}
 use lib.Seq.{append_snoc}
 use Rattle.std.proofs.lemmas.List.{map-append, drop_all}
 use Rattle.fault.specs.declared.ManagerFault.{ManagerFault}

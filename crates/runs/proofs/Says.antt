@@ -3,7 +3,7 @@ use Rattle.std.proofs.Common.{◌≡◌, ℕ, List, [], ◌∷◌, Some, None, O
 use Rattle.fault.specs.declared.ManagerFault.{ManagerFault}
 use Rattle.task.specs.declared.Access.{Access}
 use Rattle.host.specs.Meaning.{Fixed}
-use Rattle.order.specs.Steps.{Step, bring, put, Job}
+use Rattle.order.specs.Steps.{bring, put, Job}
 use Rattle.roll.specs.Roll.{Standing, waiting, ready, running, Entry, find}
 use Rattle.roll.specs.Tables.{submit_fault}
 use Rattle.roll.specs.Calls.{Setting, State, submit, take, step, finish, give_seat, submitted, begun, begun_at, took, stepped, stepped_at, finished, finished_at, perform}

@@ -1,4 +1,6 @@
 // Runs of public calls: one call of any kind, a whole list of calls on a new manager, and the law that every such run obeys.
+#![tactic(auto)]
+
 mod calls;
 mod maker;
 mod performing;

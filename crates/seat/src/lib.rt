@@ -1,4 +1,6 @@
 // One seat of the manager: its task, its standing, and how the standing moves.
+#![tactic(auto)]
+
 mod seats;
 
 ghost use Rattle.std.specs.Prelude.{◌≡◌, true};

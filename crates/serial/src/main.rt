@@ -1,4 +1,6 @@
 // Reads messages from standard input, does every submission in turn, alone, over 64 zero stamps, and prints what was done.
+#![tactic(auto)]
+
 use serial_run::MAX_INPUT;
 use std::env;
 use std::io::Read;

@@ -1,5 +1,7 @@
 // Runs `serial` on many streams: each line of standard input is a case, a label, how often its bytes are repeated, and the bytes in
 // hexadecimal (or - for none). Prints the label and what `serial` prints.
+#![tactic(auto)]
+
 use anyhow::Context;
 use std::alloc::{AllocError, Global};
 

@@ -1,5 +1,5 @@
 -- The job of the program `serial`: the first 65,536 bytes, as messages, one at a time over 64 zero stamps. Assumes nothing.
-use Rattle.std.specs.Prelude.{◌≡◌, ℕ, Bool, List, length, take, nat_lt}
+use Rattle.std.specs.Prelude.{◌≡◌, ℕ, List, length, take, nat_lt}
 use Rattle.stamp_host.specs.Stamps.{fixed_of, values_of, fixed_for, all_zero}
 use Rattle.one_at_a_time.specs.Ran.{RanStream}
 use Rattle.serial_run.specs.declared.Report.{Report}

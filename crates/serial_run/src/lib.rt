@@ -1,4 +1,6 @@
 // The job of the program `serial`: a stream of messages, one at a time over 64 zero stamps, and a report of it as text.
+#![tactic(auto)]
+
 mod text;
 
 ghost use Rattle.serial_run.specs.Job.{Reports};

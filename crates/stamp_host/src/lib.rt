@@ -1,4 +1,6 @@
 // A host whose values are stamps: numbers of 64 bits at the addresses from 0 on.
+#![tactic(auto)]
+
 mod methods;
 mod rule;
 

@@ -1,4 +1,6 @@
 // Tasks and their accesses, and when they conflict.
+#![tactic(auto)]
+
 mod tasks;
 
 ghost use Rattle.std.specs.Prelude.{◌≡◌};

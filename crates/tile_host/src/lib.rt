@@ -1,4 +1,6 @@
 // A host whose values are tiles of four channels, at the addresses that are multiples of 16.
+#![tactic(auto)]
+
 mod methods;
 mod rule;
 

@@ -1,15 +1,13 @@
 -- What lasts while those that may hold an address become holders, and what a departure comes to. Assumes nothing.
-use Rattle.std.proofs.Common.{◌≡◌, ℕ, zero, suc, ◌+◌, ◌-◌, ◌*◌, ◌/◌, ◌%◌, ◌<◌, ◌≤◌, Bool, true, false, cond, not, ◌&&◌, eqb, ltb, ◌⊎◌, List, length, get_or, Some, None, vec_items, Option, sym, refl, ap, ◌∙◌, subst, inl, inr, ⊎_elim, not-suc-le-zero, arith}
-use Rattle.std.proofs.lemmas.Bool.{cases_eq, eq-eqb, eqb-true, lt-ltb}
+use Rattle.std.proofs.Common.{◌≡◌, ℕ, zero, suc, ◌+◌, ◌-◌, ◌*◌, ◌/◌, ◌%◌, ◌<◌, ◌≤◌, Bool, true, false, not, ◌&&◌, eqb, ltb, List, length, get_or, Some, None, vec_items, Option, sym, refl, ap, ◌∙◌, ⊎_elim, not-suc-le-zero, arith}
+use Rattle.std.proofs.lemmas.Bool.{cases_eq, eqb-true, lt-ltb}
 use Rattle.acceptance.specs.declared.Acceptance.{Acceptance}
 use Rattle.acceptance.specs.Listed.{place_of}
-use Rattle.host.specs.Meaning.{update}
 use Rattle.roll.specs.Tables.{tally}
 use Rattle.claims.specs.Claims.{State, claims, settled, dropped, promotes, moves, released, freed, less}
 use Rattle.claims.proofs.Moves.{some_moved, none_settled, released_is}
 use Rattle.tracker.specs.State.{state_of, blank}
-use Rattle.tracker.specs.Table.{Table, Found, Placed, lock_at, tag_at, live_at, live_ways}
-use Rattle.tracker.specs.Covered.{Covered}
+use Rattle.tracker.specs.Table.{Table, Found, lock_at, live_at, live_ways}
 use Rattle.tracker.specs.Tracked.{blocked_at}
 use Rattle.tracker.specs.Departures.{Leaves, Departed, Ready, Drained, Woken}
 use Rattle.tracker.specs.declared.lock.Lock.{Lock}

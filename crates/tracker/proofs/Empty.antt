@@ -1,6 +1,5 @@
 -- Tables that no task is in. Assumes nothing.
-use Rattle.std.proofs.Common.{◌≡◌, ℕ, zero, suc, ◌+◌, ◌*◌, ◌%◌, ◌<◌, ◌≤◌, ltb, List, [], ◌∷◌, ◌++◌, sym, refl, ap, ◌∙◌, subst, arith}
-use Rattle.roll.specs.Roll.{Roll}
+use Rattle.std.proofs.Common.{◌≡◌, ℕ, zero, suc, ◌+◌, ◌*◌, ◌<◌, ◌≤◌, ltb, [], sym, refl, ap, ◌∙◌, arith}
 use Rattle.roll.specs.Tables.{tally}
 use Rattle.claims.specs.Claims.{State, vacant}
 use Rattle.claims.specs.Queues.{map_of}

@@ -1,10 +1,10 @@
 -- What holds of every entry of a roll, entry by entry and by the ways of cutting the roll at an entry. Assumes nothing.
-use Rattle.std.proofs.Common.{◌≡◌, ℕ, Bool, true, false, ◌||◌, eqb, ◌⊎◌, List, [], ◌∷◌, ◌++◌, sym, refl, ap, ◌∙◌, subst, inl, inr, ⊎_elim}
+use Rattle.std.proofs.Common.{◌≡◌, ℕ, true, false, eqb, ◌⊎◌, List, [], ◌∷◌, ◌++◌, sym, refl, ap, subst, inl, inr, ⊎_elim}
 use Rattle.std.proofs.lemmas.Bool.{or_parts, or_from, cases_Bool, ne_eqb, eqb-false, eqb-true}
 use Rattle.task.specs.declared.Access.{Access}
 use Rattle.admission.specs.Admission.{occurs}
 use Rattle.roll.specs.Roll.{Entry, Roll}
-use Rattle.claims.specs.Queues.{Apart, AllApart, AbsentSeat}
+use Rattle.claims.specs.Queues.{Apart, AbsentSeat}
 use Rattle.tracker.specs.Tracked.{repeats, taken, doubled}
 
 -- each entry has the property

@@ -1,13 +1,13 @@
 -- A task whose accesses leave the tables one by one. Assumes nothing.
-use Rattle.std.proofs.Common.{◌≡◌, ℕ, zero, suc, ◌+◌, ◌-◌, ◌%◌, ◌<◌, ◌≤◌, Bool, true, false, cond, not, ◌&&◌, ◌||◌, eqb, ltb, ◌⊎◌, List, [], ◌∷◌, ◌++◌, length, drop, sym, refl, ap, ◌∙◌, subst, inl, inr, ⊎_elim, arith, length-append}
-use Rattle.std.proofs.lemmas.Bool.{cases_Bool, cases_eq, eqb-true, or_parts, ne_eqb, eq-eqb, both_ways}
+use Rattle.std.proofs.Common.{◌≡◌, ℕ, zero, suc, ◌%◌, ◌≤◌, true, false, not, ◌&&◌, ◌||◌, eqb, ltb, List, [], ◌∷◌, ◌++◌, length, drop, sym, refl, ap, ◌∙◌, subst, ⊎_elim, arith, length-append}
+use Rattle.std.proofs.lemmas.Bool.{cases_Bool, cases_eq, eqb-true, ne_eqb, both_ways}
 use Rattle.task.specs.declared.Access.{Access}
 use Rattle.admission.specs.Admission.{occurs}
 use Rattle.host.specs.Meaning.{update}
 use Rattle.roll.specs.Roll.{Entry, Roll}
-use Rattle.roll.specs.Tables.{tally, used, live, occupied}
-use Rattle.claims.specs.Claims.{State, claims, released, freed}
-use Rattle.claims.specs.Queues.{bare, map_of, stuck_of, hit_count, Apart, AbsentSeat}
+use Rattle.roll.specs.Tables.{tally, live}
+use Rattle.claims.specs.Claims.{State, claims, released}
+use Rattle.claims.specs.Queues.{bare, map_of, stuck_of, hit_count, AbsentSeat}
 use Rattle.claims.proofs.Updates.{update_same}
 use Rattle.claims.proofs.Queues.{hits}
 use Rattle.claims.proofs.Counts.{stuck_hits, hit_zero}
@@ -15,11 +15,11 @@ use Rattle.claims.proofs.Leaving.{with, map_leave}
 use Rattle.claims.proofs.Leaves.{hits_leave, used_frees, occupied_frees, live_own, map_gone, used_gone, occupied_gone}
 use Rattle.claims.proofs.Seats.{absent_waiting, count_released, size_most}
 use Rattle.claims.proofs.Held.{live_held, held_of_live}
-use Rattle.tracker.specs.Table.{Table, live_at}
+use Rattle.tracker.specs.Table.{Table}
 use Rattle.tracker.specs.Tracked.{Tracked, sized, blocked_at}
 use Rattle.tracker.specs.Departures.{Leaves, Departed}
 use Rattle.tracker.specs.declared.tracker.Tracker.{Tracker}
-use Rattle.tracker.proofs.Entries.{All, Cut, cut_of_all, all_last, all-++, all_left, all_right, all_map, all_both, Distinct, distinct_of, apart_before, apart_after, distinct_same, distinct_gone, Seated, seated_or}
+use Rattle.tracker.proofs.Entries.{All, cut_of_all, all_last, all-++, all_left, all_right, all_map, all_both, Distinct, distinct_of, apart_before, apart_after, distinct_same, distinct_gone, Seated, seated_or}
 use Rattle.tracker.proofs.Tracking.{FitsIn, each, Lonely, lonely, made, all_apart}
 
 -- without the first accesses the rest is not blocked either

@@ -1,5 +1,5 @@
 -- That the tables stand for a roll can be shown in one way only: whoever keeps it as a fact can have it back. Assumes nothing.
-use Rattle.std.proofs.Common.{◌≡◌, ℕ, ap}
+use Rattle.std.proofs.Common.{ℕ}
 use std.HLevel.{⊥_prop}
 use base.Stored.{Coded, coded_ℕ, coded_bool, coded_list, coded×, coded_via}
 use native.Mathlib.Bridge.{le_prop}

@@ -1,9 +1,8 @@
 -- What a submission that does not stall leaves room for. Assumes nothing.
-use Rattle.std.proofs.Common.{◌≡◌, ℕ, zero, suc, ◌+◌, ◌-◌, ◌%◌, ◌<◌, ◌≤◌, Bool, true, false, cond, not, ◌&&◌, ◌||◌, eqb, ltb, ◌⊎◌, List, [], ◌∷◌, ◌++◌, length, get_or, take, Some, None, Option, sym, refl, ap, ◌∙◌, subst, inl, inr, ⊎_elim, le_of_suc-le-suc, not-suc-le-zero, arith, length-take}
-use Rattle.std.proofs.lemmas.Bool.{cases_Bool, cases_eq, eq-eqb, ltb-false, both_ways, cond-true, cond-false}
+use Rattle.std.proofs.Common.{◌≡◌, ℕ, zero, suc, ◌+◌, ◌-◌, ◌%◌, ◌<◌, ◌≤◌, Bool, true, false, cond, not, ◌&&◌, ◌||◌, eqb, ltb, List, [], ◌∷◌, length, get_or, take, Some, None, Option, sym, refl, ap, ◌∙◌, ⊎_elim, arith}
+use Rattle.std.proofs.lemmas.Bool.{cases_Bool, cases_eq, eq-eqb, ltb-false, cond-true, cond-false}
 use Rattle.std.proofs.lemmas.List.{take_more}
-use Rattle.fault.specs.declared.TableFault.{TableFault}
-use Rattle.fault.specs.declared.TableFault.TheVariants.{TooFewVersions, SetFull}
+use Rattle.fault.specs.declared.TableFault.TheVariants.{TooFewVersions}
 use Rattle.task.specs.declared.Access.{Access}
 use Rattle.task.specs.declared.Direction.TheVariants.{In}
 use Rattle.task.specs.Access.{writes}

@@ -1,13 +1,13 @@
 -- A table changed at one way stands for the map changed at one address. Assumes nothing.
-use Rattle.std.proofs.Common.{◌≡◌, ℕ, zero, suc, ◌+◌, ◌-◌, ◌*◌, ◌/◌, ◌%◌, ◌<◌, ◌≤◌, Bool, true, false, cond, not, ◌&&◌, eqb, ltb, ◌⊎◌, List, [], ◌∷◌, length, get_or, set, vec_items, sym, refl, ap, ◌∙◌, subst, inl, inr, ⊎_elim, not-suc-le-zero, arith, get_or-set_other, get_or-set_same}
+use Rattle.std.proofs.Common.{◌≡◌, ℕ, zero, suc, ◌+◌, ◌*◌, ◌/◌, ◌%◌, ◌<◌, ◌≤◌, Bool, true, false, cond, not, ◌&&◌, eqb, ltb, ◌⊎◌, List, [], ◌∷◌, length, get_or, set, vec_items, sym, refl, ap, ◌∙◌, subst, inl, inr, ⊎_elim, not-suc-le-zero, arith, get_or-set_other, get_or-set_same}
 use Rattle.std.proofs.lemmas.Bool.{cases_eq, eq-eqb, ne_eqb, cases_Bool, cond-true, cond-false, both_ways, lt-ltb}
 use Rattle.roll.specs.Tables.{tally}
 use Rattle.host.specs.Meaning.{update}
 use Rattle.claims.specs.declared.Claim.{Claim}
-use Rattle.claims.specs.Claims.{State, vacant, neither, may, settle, open_to, joined_by, less, released}
+use Rattle.claims.specs.Claims.{State, vacant, settle, open_to, joined_by}
 use Rattle.claims.proofs.Updates.{update_same, update_other}
 use Rattle.claims.proofs.Held.{settle_holds}
-use Rattle.tracker.specs.State.{state_of, blank}
+use Rattle.tracker.specs.State.{state_of}
 use Rattle.tracker.specs.Table.{tag_at, lock_at, live_at, Live, Found, Absent, Full, Free, Table, Placed, Joined, live_ways}
 use Rattle.tracker.specs.declared.lock.Lock.{Lock}
 use Rattle.tracker.specs.declared.ways.AddressTable.{AddressTable}

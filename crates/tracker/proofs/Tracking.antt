@@ -1,7 +1,7 @@
 -- The tables stand for a roll: what they know of each entry, and what a task that takes a seat and joins does. Assumes nothing.
-use Rattle.std.proofs.Common.{◌≡◌, ℕ, zero, suc, ◌+◌, ◌-◌, ◌%◌, ◌<◌, ◌≤◌, Bool, true, false, cond, not, ◌&&◌, ◌||◌, eqb, ltb, ◌⊎◌, List, [], ◌∷◌, ◌++◌, length, sym, refl, ap, ◌∙◌, subst, inl, inr, ⊎_elim, arith, length-append}
+use Rattle.std.proofs.Common.{◌≡◌, ℕ, ◌+◌, ◌%◌, ◌<◌, ◌≤◌, Bool, true, false, not, ◌&&◌, ◌||◌, eqb, ltb, List, [], ◌∷◌, ◌++◌, length, sym, refl, ap, ◌∙◌, subst, arith, length-append}
 use mathlib.Core.Path.{fun_ext}
-use Rattle.std.proofs.lemmas.Bool.{cases_Bool, eq-eqb, or_parts, or_from, cond_both, eqb-false, ne_eqb}
+use Rattle.std.proofs.lemmas.Bool.{eq-eqb, or_parts, or_from, cond_both, eqb-false, ne_eqb}
 use Rattle.task.specs.declared.Access.{Access}
 use Rattle.task.specs.Access.{writes}
 use Rattle.admission.specs.Admission.{occurs}
@@ -17,11 +17,11 @@ use Rattle.claims.proofs.Seats.{elsewhere_waiting}
 use Rattle.claims.proofs.Sets.{used_enter, occupied_enter}
 use Rattle.claims.proofs.Held.{live_held}
 use Rattle.tracker.specs.Table.{Table, Joined, live_at}
-use Rattle.tracker.specs.Tracked.{Tracked, sized, blocked_at, repeats, doubled}
+use Rattle.tracker.specs.Tracked.{Tracked, sized, blocked_at}
 use Rattle.tracker.specs.declared.ways.AddressTable.{AddressTable}
 use Rattle.tracker.specs.declared.ways.Claimed.{Claimed}
 use Rattle.tracker.specs.declared.tracker.Tracker.{Tracker}
-use Rattle.tracker.proofs.Entries.{All, Cut, all_of_cut, cut_of_all, all_last, all-++, all_left, all_right, all_map, all_both, apart_of, repeats_of, absent_all, Distinct, distinct_of, doubled_of, apart_before, apart_after, distinct_more, distinct_same}
+use Rattle.tracker.proofs.Entries.{All, Cut, all_of_cut, cut_of_all, all_last, all-++, all_left, all_map, all_both, apart_of, repeats_of, absent_all, Distinct, distinct_of, doubled_of, apart_before, apart_after, distinct_more, distinct_same}
 
 -- what the tables know of an entry, by the map of addresses
 pub record FitsIn (t : Tracker) (M : ℕ → State) (e : Entry) : Type 0 where

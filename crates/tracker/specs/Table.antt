@@ -5,7 +5,7 @@
 --   Full, Free                  every way of the set is live; one is not
 --   Table                       the table stands for a map
 --   Placed                      the way of an address, or one that it may have
-use Rattle.std.specs.Prelude.{◌≡◌, ℕ, zero, suc, ◌+◌, ◌*◌, ◌%◌, ◌<◌, ◌≤◌, Bool, not, ◌&&◌, length, vec_items, ◌==◌, nat_lt, slice_index, slice_index_or}
+use Rattle.std.specs.Prelude.{◌≡◌, ℕ, zero, suc, ◌+◌, ◌*◌, ◌%◌, ◌<◌, not, ◌&&◌, vec_items, ◌==◌, nat_lt, slice_index, slice_index_or}
 use Rattle.roll.specs.Tables.{tally}
 use Rattle.host.specs.Meaning.{update}
 use Rattle.claims.specs.declared.Claim.{Claim}

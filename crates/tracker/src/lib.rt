@@ -1,4 +1,6 @@
 // The dependence tables: which addresses the unfinished tasks hold, who waits for which, and how much of the tables is in use.
+#![tactic(auto)]
+
 mod enters;
 mod faults;
 mod leaves;

@@ -5,7 +5,7 @@ use Rattle.fault.specs.Numbers.{stream_number, stream_place}
 use Rattle.task.specs.declared.Access.{Access}
 use Rattle.task.specs.declared.Direction.TheVariants.{In, Out}
 use Rattle.stamp_host.specs.Stamps.{fixed_for}
-use Rattle.layout.specs.Layout.{Contents, submits, layout}
+use Rattle.layout.specs.Layout.{Contents, submits}
 use Rattle.layout.specs.Reading.{read}
 use Rattle.one_at_a_time.specs.Journal.{did, journal}
 

@@ -1,4 +1,6 @@
 // Small cases that are settled by computing the definitions.
+#![tactic(auto)]
+
 ghost use Rattle.std.specs.Prelude.{◌≡◌};
 ghost use Rattle.stamp_host.specs.Stamps.{fixed_for};
 ghost use Rattle.layout.specs.Layout.{layout};

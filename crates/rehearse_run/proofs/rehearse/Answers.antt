@@ -16,30 +16,30 @@ use Rattle.rehearse_run.proofs.rehearse.Goals as goal
 pub returns : goal.returns
 returns c =
     let bytes = c.args.bytes.now in
-    let host = c.in-ok-host.host in
+    let host = c.in_ok-host.host in
     let h = fixed_of host in
     let w = values_of host in
-    let n = setting_with c.in-ok-manager.manager h in
-    let b = state_with c.in-ok-manager.manager w in
+    let n = setting_with c.in_ok-manager.manager h in
+    let b = state_with c.in_ok-manager.manager w in
     let reader = c.new-reader.result in
     let ls = lines_of (vec_items c.new-lines.result) in
-    let last = lines_of (vec_items c.feed-all.new.lines) in
-    let z = state_with c.feed-all.new.manager (values_of c.feed-all.new.host) in
-    let looked = c.min-looked-at.result - 0 in
-    let most : looked ≡ min (length bytes) 65536 = omega (arith, c.min-looked-at.ensures) in
+    let last = lines_of (vec_items c.feed_all.new.lines) in
+    let z = state_with c.feed_all.new.manager (values_of c.feed_all.new.host) in
+    let looked = c.min-looked_at.result - 0 in
+    let most : looked ≡ min (length bytes) 65536 = omega (arith, c.min-looked_at.ensures) in
     let front : reader.bytes.now ≡ take 65536 bytes = c.new-reader.ensures.bytes ∙ take_most bytes 65536 looked most in
-    let same : n ≡ stage = on_stage n h c.in-ok-manager.ensures.setting c.in-ok-host.ensures.fixed in
-    let new : b ≡ start = at_start b h w c.in-ok-manager.ensures.state c.in-ok-host.ensures.values in
-    let went = c.in-ok-feed-all.ensures.went in
+    let same : n ≡ stage = on_stage n h c.in_ok-manager.ensures.setting c.in_ok-host.ensures.fixed in
+    let new : b ≡ start = at_start b h w c.in_ok-manager.ensures.state c.in_ok-host.ensures.values in
+    let went = c.in_ok-feed_all.ensures.went in
     let lines : last ≡ rehearsed stage (take 65536 bytes) rounds 0 start =
     whole_lines n reader.bytes.now (take 65536 bytes) reader.place.at b ls z last went same front c.new-reader.ensures.place new (ap lines_of c.new-lines.ensures.items) in
     let state : z ≡ rehearsed_state stage (take 65536 bytes) rounds 0 start =
     whole_state n reader.bytes.now (take 65536 bytes) reader.place.at b ls z last went same front c.new-reader.ensures.place new in
     let lawful : Lawful stage all_zero (rehearsed_calls stage (take 65536 bytes) rounds 0 start) =
-    obeys_here h w c.in-ok-host.ensures.fixed c.in-ok-host.ensures.values c.in-ok-manager.ensures.law (rehearsed_calls stage (take 65536 bytes) rounds 0 start) in
+    obeys_here h w c.in_ok-host.ensures.fixed c.in_ok-host.ensures.values c.in_ok-manager.ensures.law (rehearsed_calls stage (take 65536 bytes) rounds 0 start) in
     let left = ap (λ (x : State ℕ). x.values) (state ∙ calls_leave (take 65536 bytes) lawful) in
     record {
-      fixed = c.feed-all.ensures.fixed ∙ c.in-ok-host.ensures.fixed;
+      fixed = c.feed_all.ensures.fixed ∙ c.in_ok-host.ensures.fixed;
       lines = lines;
       values = ap (λ (x : State ℕ). x.values) state;
       ends = subst Ends (sym lines) (all_ends bytes);

@@ -4,18 +4,18 @@ use Rattle.acceptance.specs.Listed.{member, listed, seats_in}
 use Rattle.acceptance.proofs.Places.{at_place, hole, hole_placed}
 use Rattle.acceptance.proofs.Acceptance.remove.Goals as goal
 
-pub index-mut-requires : goal.index-mut-requires
-index-mut-requires c =
+pub index_mut-requires : goal.index_mut-requires
+index_mut-requires c =
     let a = c.args.self.now in
     omega (arith, (at_place (vec_items a.slots) (vec_items a.places) a.end (omega arith) a.placed c.args.seat (sym c.if-not-lists.ensures)).1)
 
-pub invariant-of-self : goal.invariant-of-self
-invariant-of-self c =
+pub invariant_of-self : goal.invariant_of-self
+invariant_of-self c =
     let a = c.args.self.now in
     let slots = vec_items a.slots in
     let places = vec_items a.places in
     let there = (at_place slots places a.end (omega arith) a.placed c.args.seat (sym c.if-not-lists.ensures)).1 in
-    (a.full, (a.noted, (a.within, (hole_placed slots places a.end (omega arith) a.placed c.place-place.result (omega arith), tt))))
+    record { full = a.full; noted = a.noted; within = a.within; placed = hole_placed slots places a.end (omega arith) a.placed c.place-place.result (omega arith) }
 
 pub returns : goal.returns
 returns c =

@@ -1,15 +1,15 @@
 use Rattle.std.proofs.Common.{◌≡◌, get_or, refl, arith}
 use Rattle.acceptance.proofs.Closing.{Closing, closing_hole, closing_seat, closing_few, front_seats}
 use Rattle.acceptance.proofs.methods.close_holes.Goals as goal
-use Rattle.acceptance.proofs.methods.close_holes.Goals.{then-seat-lt-NO-SEAT, else-seat-lt-NO-SEAT}
+use Rattle.acceptance.proofs.methods.close_holes.Goals.{then-seat-lt-NO_SEAT, else-seat-lt-NO_SEAT}
 
 pub loop-place-preserved : goal.loop-place-preserved
 loop-place-preserved c =
     let x = get_or c.loop-place.slots c.loop-place.place 0 in
-    elim c.if-seat-lt-NO-SEAT.branch [
-      | then-seat-lt-NO-SEAT w ↦
+    elim c.if-seat-lt-NO_SEAT.branch [
+      | then-seat-lt-NO_SEAT w ↦
           rw (w.slots-is, w.places-is, w.count-is) (closing_seat c.args.places.now c.args.end x (omega arith) c.requires.placed (omega arith) (omega arith) (omega arith) refl c.loop-place.invariant)
-      | else-seat-lt-NO-SEAT w ↦ rw (w.slots-is, w.places-is, w.count-is) (closing_hole x (omega arith) refl (omega arith) c.loop-place.invariant)
+      | else-seat-lt-NO_SEAT w ↦ rw (w.slots-is, w.places-is, w.count-is) (closing_hole x (omega arith) refl (omega arith) c.loop-place.invariant)
     ]
 
 pub returns : goal.returns

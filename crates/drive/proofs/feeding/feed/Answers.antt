@@ -10,9 +10,9 @@ returns-in-Ok g c =
     record {
       answer = answered (setting_with c.args.manager.now (g.H.Host.fixed c.args.host.now)) (state_with c.args.manager.now (g.H.Host.values c.args.host.now)) at
           (read at (drop at c.args.reader.now.bytes.now)) (Ok c.in-Ok.fed) c.in-Ok.ensures.answer;
-      after = c.feed-next.ensures.after;
-      tables = c.feed-next.ensures.tables;
-      place = c.feed-next.ensures.place;
+      after = c.feed_next.ensures.after;
+      tables = c.feed_next.ensures.tables;
+      place = c.feed_next.ensures.place;
       bytes = refl;
       refused = λ e. let z : ◌≡◌ {A = ℕ} 0 1 = cc in absurd (omega arith);
     }
@@ -23,9 +23,9 @@ returns-in-Err g c =
     record {
       answer = answered (setting_with c.args.manager.now (g.H.Host.fixed c.args.host.now)) (state_with c.args.manager.now (g.H.Host.values c.args.host.now)) at
           (read at (drop at c.args.reader.now.bytes.now)) (Err c.in-Err.cause) c.in-Err.ensures.answer;
-      after = c.feed-next.ensures.after;
-      tables = c.feed-next.ensures.tables;
-      place = c.feed-next.ensures.place;
+      after = c.feed_next.ensures.after;
+      tables = c.feed_next.ensures.tables;
+      place = c.feed_next.ensures.place;
       bytes = refl;
       refused = λ _. c.in-Err.ensures.refused refl;
     }

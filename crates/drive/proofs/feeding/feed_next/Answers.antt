@@ -7,34 +7,34 @@ use Rattle.drive.proofs.Asking.{unread, unasked, accepted}
 use Rattle.drive.proofs.feeding.feed_next.Goals as goal
 
 -- the bytes are no message
-pub returns-in-err-message : goal.returns-in-err-message
-returns-in-err-message g c =
+pub returns-in_err-message : goal.returns-in_err-message
+returns-in_err-message g c =
     let at = c.args.place.now.at in
-    let p = err_from_is_err_and c.from-residual.result c.from-residual.ensures.1 in
+    let p = err_from_is_err_and c.from_residual.result c.from_residual.ensures.1 in
     let all = unread (setting_with c.args.manager.now (g.H.Host.fixed c.args.host.now)) (state_with c.args.manager.now (g.H.Host.values c.args.host.now)) at
-    (read at (drop at c.args.bytes.now)) c.in-err-message.field-0.0 c.drop-guard.new.self.0.at c.in-err-message.ensures.0 c.drop-guard.ensures in
+    (read at (drop at c.args.bytes.now)) c.in_err-message.field-0.0 c.drop-guard.new.self.0.at c.in_err-message.ensures.0 c.drop-guard.ensures in
     rw (p.1, p.2) (record { answer = all.0; after = all.1; tables = refl; place = all.2; refused = λ _. refl })
 
 -- the call is refused
-pub returns-in-err-fed : goal.returns-in-err-fed
-returns-in-err-fed g c =
+pub returns-in_err-fed : goal.returns-in_err-fed
+returns-in_err-fed g c =
     let at = c.args.place.now.at in
     let w = g.H.Host.values c.args.host.now in
-    let p = err_from_is_err_and c.from-residual-in-err-fed.result c.from-residual-in-err-fed.ensures.1 in
+    let p = err_from_is_err_and c.from_residual-in_err-fed.result c.from_residual-in_err-fed.ensures.1 in
     let all = unasked (setting_with c.args.manager.now (g.H.Host.fixed c.args.host.now)) (state_with c.args.manager.now w) at
-    (read at (drop at c.args.bytes.now)) (contents_of c.in-ok-message.message) (drop c.read-message.new.place.at c.args.bytes.now)
-    (state_with c.ask.new.manager w) c.in-err-fed.field-0.0 c.drop-guard-in-err-fed.new.self.0.at c.in-ok-message.ensures.0
-    (c.in-err-fed.ensures.answer, c.ask.ensures.after) c.drop-guard-in-err-fed.ensures in
-    rw (p.1, p.2) (record { answer = all.0; after = all.1; tables = c.ask.ensures.tables; place = all.2; refused = λ _. c.in-err-fed.ensures.refused refl })
+    (read at (drop at c.args.bytes.now)) (contents_of c.in_ok-message.message) (drop c.read_message.new.place.at c.args.bytes.now)
+    (state_with c.ask.new.manager w) c.in_err-fed.field-0.0 c.drop-guard-in_err-fed.new.self.0.at c.in_ok-message.ensures.0
+    (c.in_err-fed.ensures.answer, c.ask.ensures.after) c.drop-guard-in_err-fed.ensures in
+    rw (p.1, p.2) (record { answer = all.0; after = all.1; tables = c.ask.ensures.tables; place = all.2; refused = λ _. c.in_err-fed.ensures.refused refl })
 
 pub returns : goal.returns
 returns g c =
     let at = c.args.place.now.at in
     let w = g.H.Host.values c.args.host.now in
     let all = accepted (setting_with c.args.manager.now (g.H.Host.fixed c.args.host.now)) (state_with c.args.manager.now w) at
-    (read at (drop at c.args.bytes.now)) (contents_of c.in-ok-message.message) (drop c.read-message.new.place.at c.args.bytes.now)
-    (state_with c.ask.new.manager w) c.in-ok-fed.fed c.drop-guard-2.new.self.0.at c.in-ok-message.ensures.0
-    (c.in-ok-fed.ensures.answer, c.ask.ensures.after) (c.drop-guard-2.ensures ∙ c.in-ok-message.ensures.2) in
+    (read at (drop at c.args.bytes.now)) (contents_of c.in_ok-message.message) (drop c.read_message.new.place.at c.args.bytes.now)
+    (state_with c.ask.new.manager w) c.in_ok-fed.fed c.drop-guard-2.new.self.0.at c.in_ok-message.ensures.0
+    (c.in_ok-fed.ensures.answer, c.ask.ensures.after) (c.drop-guard-2.ensures ∙ c.in_ok-message.ensures.2) in
     record {
       answer = all.0;
       after = all.1;

@@ -9,13 +9,13 @@ use Rattle.drive.proofs.Running.{ok_err}
 use Rattle.drive.proofs.lines.dispatch.Goals as goal
 
 -- the line is full
-pub returns-then-is-full : goal.returns-then-is-full
-returns-then-is-full c =
+pub returns-then-is_full : goal.returns-then-is_full
+returns-then-is_full c =
     let m = setting_alone c.args.manager.now in
     let b = state_alone c.args.manager.now in
     record {
-      answer = ap (λ (f : Bool). dispatch_answer f m b) c.if-is-full.ensures;
-      after = ap (λ (f : Bool). state_after m b (dispatch_calls f)) c.if-is-full.ensures;
+      answer = ap (λ (f : Bool). dispatch_answer f m b) c.if-is_full.ensures;
+      after = ap (λ (f : Bool). state_after m b (dispatch_calls f)) c.if-is_full.ensures;
       tables = refl;
       contents = refl;
       slots = refl;
@@ -24,26 +24,26 @@ returns-then-is-full c =
     }
 
 -- the take is refused
-pub returns-in-err-seat : goal.returns-in-err-seat
-returns-in-err-seat c =
+pub returns-in_err-seat : goal.returns-in_err-seat
+returns-in_err-seat c =
     let m = setting_alone c.args.manager.now in
     let b = state_alone c.args.manager.now in
-    let p = err_from_is_err_and c.from-residual.result c.from-residual.ensures.1 in
+    let p = err_from_is_err_and c.from_residual.result c.from_residual.ensures.1 in
     rw (p.1, p.2) (record {
-      answer = c.in-err-seat.ensures.answer ∙ ap (λ (f : Bool). dispatch_answer f m b) c.if-is-full.ensures;
-      after = c.take.ensures.after ∙ ap (λ (f : Bool). state_after m b (dispatch_calls f)) c.if-is-full.ensures;
+      answer = c.in_err-seat.ensures.answer ∙ ap (λ (f : Bool). dispatch_answer f m b) c.if-is_full.ensures;
+      after = c.take.ensures.after ∙ ap (λ (f : Bool). state_after m b (dispatch_calls f)) c.if-is_full.ensures;
       tables = c.take.ensures.tables;
       contents = refl;
       slots = refl;
       lent = refl;
-      refused = λ _. (c.in-err-seat.ensures.refused refl, refl);
+      refused = λ _. (c.in_err-seat.ensures.refused refl, refl);
     })
 
 -- the push is refused: this does not happen
-pub returns-in-err-push : goal.returns-in-err-push
-returns-in-err-push c =
+pub returns-in_err-push : goal.returns-in_err-push
+returns-in_err-push c =
     let x : Result (Unit {0}) ManagerFault = Err LineFull in
-    absurd (ok_err tt c.in-err-push.field-0.0 (sym (c.in-err-push.ensures.answer ∙ ap (λ (f : Bool). cond f x (Ok tt)) (sym c.if-is-full.ensures))))
+    absurd (ok_err tt c.in_err-push.field-0.0 (sym (c.in_err-push.ensures.answer ∙ ap (λ (f : Bool). cond f x (Ok tt)) (sym c.if-is_full.ensures))))
 
 pub returns : goal.returns
 returns c =
@@ -52,11 +52,11 @@ returns c =
     let work = c.args.work.now in
     let xs : List ℕ = contents_of work in
     let slots : List ℕ = slots_of work in
-    let s = c.in-ok-seat.seat in
-    let room = sym c.if-is-full.ensures in
+    let s = c.in_ok-seat.seat in
+    let room = sym c.if-is_full.ensures in
     record {
-      answer = c.in-ok-seat.ensures.answer ∙ ap (λ (f : Bool). dispatch_answer f m b) c.if-is-full.ensures;
-      after = c.take.ensures.after ∙ ap (λ (f : Bool). state_after m b (dispatch_calls f)) c.if-is-full.ensures;
+      answer = c.in_ok-seat.ensures.answer ∙ ap (λ (f : Bool). dispatch_answer f m b) c.if-is_full.ensures;
+      after = c.take.ensures.after ∙ ap (λ (f : Bool). state_after m b (dispatch_calls f)) c.if-is_full.ensures;
       tables = c.take.ensures.tables;
       contents = c.push.ensures.contents ∙ ap (λ (f : Bool). cond f xs (xs ++ (s ∷ []))) room;
       slots = c.push.ensures.slots ∙ ap (λ (f : Bool). cond f slots (set slots (slot_after work) s)) room;

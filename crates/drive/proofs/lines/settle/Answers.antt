@@ -9,12 +9,12 @@ use Rattle.drive.specs.Lines.{notice_of, notices_of, settle_result}
 use Rattle.drive.proofs.lines.settle.Goals as goal
 
 -- there is no notice
-pub returns-in-err-notice : goal.returns-in-err-notice
-returns-in-err-notice c =
+pub returns-in_err-notice : goal.returns-in_err-notice
+returns-in_err-notice c =
     let m = setting_alone c.args.manager.now in
     let b = state_alone c.args.manager.now in
-    let p = err_from_is_err_and c.from-residual.result c.from-residual.ensures.1 in
-    let why = c.in-err-notice.ensures.cases in
+    let p = err_from_is_err_and c.from_residual.result c.from_residual.ensures.1 in
+    let why = c.in_err-notice.ensures.cases in
     rw (p.1, p.2) (record {
       answer = ap (λ (f : ManagerFault). Err f) why.0 ∙ ap (λ (xs : List Notice). settle_result (settle_answer (map notice_of xs) m b)) (sym why.1);
       after = ap (λ (xs : List Notice). state_after m b (settle_calls (map notice_of xs))) (sym why.1);
@@ -29,8 +29,8 @@ pub returns : goal.returns
 returns c =
     let m = setting_alone c.args.manager.now in
     let b = state_alone c.args.manager.now in
-    let n : Notice = c.in-ok-notice.notice in
-    let first = c.in-ok-notice.ensures.cases in
+    let n : Notice = c.in_ok-notice.notice in
+    let first = c.in_ok-notice.ensures.cases in
     record {
       answer =
           ap (λ (r : Result ℕ ManagerFault). Ok (n, r)) c.finish.ensures.answer

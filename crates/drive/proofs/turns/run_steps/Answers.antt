@@ -33,7 +33,7 @@ returns g c =
     let still : m ≡ setting_with c.args.manager.now (g.H.Host.fixed c.args.host.now) = same_setting c.loop.invariant.1 c.loop.invariant.0 in
     record {
       after =
-          subst (λ (x : Setting g.row.H-Value.Denot). d ≡ all_done s x b) still (done_here s m b c.in-default.field-0 c.in-default.ensures.answer d c.step.ensures.after)
+          subst (λ (x : Setting g.row.H-Value.Denot). d ≡ all_done s x b) still (done_here s m b c.in_default.field-0 c.in_default.ensures.answer d c.step.ensures.after)
           ∙ c.loop.invariant.2;
       fixed = c.step.ensures.fixed ∙ c.loop.invariant.0;
       tables = c.step.ensures.tables ∙ c.loop.invariant.1;

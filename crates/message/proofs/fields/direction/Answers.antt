@@ -1,17 +1,17 @@
-use Rattle.std.proofs.Common.{◌≡◌, ℕ, ◌+◌, ◌-◌, ◌<◌, ◌≤◌, List, length, get_or, take, drop, refl, ap, ◌∙◌, arith, rules}
-use Rattle.layout.specs.Reading.{direction_at, direction}
+use Rattle.std.proofs.Common.{◌-◌, ◌<◌, length, refl, ap, ◌∙◌, arith, rules}
+use Rattle.layout.specs.Reading.{direction_at}
 use Rattle.message.proofs.Numbers.{byte_there, none_there}
 use Rattle.message.proofs.fields.direction.Goals as goal
 
-pub returns-in-default : goal.returns-in-default
-returns-in-default c =
+pub returns-in_default : goal.returns-in_default
+returns-in_default c =
     let bytes = c.args.bytes.now in
     let at = c.args.place.now.at in
     let short : length bytes - at < 1 = search rules in
     (ap (direction_at (at - c.args.start)) (none_there at bytes short), refl)
 
-pub returns-in-default-code : goal.returns-in-default-code
-returns-in-default-code c =
+pub returns-in_default-code : goal.returns-in_default-code
+returns-in_default-code c =
     let bytes = c.args.bytes.now in
     let at = c.args.place.now.at in
     let k = at - c.args.start in

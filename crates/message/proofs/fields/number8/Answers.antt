@@ -1,10 +1,10 @@
-use Rattle.std.proofs.Common.{◌≡◌, ℕ, ◌+◌, ◌-◌, ◌<◌, ◌≤◌, List, length, get_or, take, drop, refl, ap, ◌∙◌, arith, length-drop, length-take, rules}
+use Rattle.std.proofs.Common.{◌≡◌, ℕ, ◌+◌, ◌-◌, ◌<◌, ◌≤◌, List, length, take, drop, refl, ap, ◌∙◌, rules}
 use Rattle.layout.specs.Reading.{value}
 use Rattle.message.proofs.Numbers.{rest_is, number_there, number_short, value8}
 use Rattle.message.proofs.fields.number8.Goals as goal
 
-pub returns-in-default : goal.returns-in-default
-returns-in-default c =
+pub returns-in_default : goal.returns-in_default
+returns-in_default c =
     let bytes = c.args.bytes.now in
     let at = c.args.place.now.at in
     let short : length bytes - at < 8 = search rules in
@@ -15,6 +15,6 @@ returns c =
     let bytes = c.args.bytes.now in
     let at = c.args.place.now.at in
     let room : at + 8 ≤ length bytes = search rules in
-    let is : c.from-le-bytes.result ≡ value (take 8 (drop at bytes)) =
-    c.from-le-bytes.ensures ∙ value8 (take (length bytes - at) (drop at bytes)) ∙ ap (λ (xs : List ℕ). value (take 8 xs)) (rest_is at bytes) in
-    (number_there 8 (at - c.args.start) at bytes c.from-le-bytes.result room is, refl, room)
+    let is : c.from_le_bytes.result ≡ value (take 8 (drop at bytes)) =
+    c.from_le_bytes.ensures ∙ value8 (take (length bytes - at) (drop at bytes)) ∙ ap (λ (xs : List ℕ). value (take 8 xs)) (rest_is at bytes) in
+    (number_there 8 (at - c.args.start) at bytes c.from_le_bytes.result room is, refl, room)

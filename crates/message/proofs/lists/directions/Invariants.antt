@@ -1,4 +1,4 @@
-use Rattle.std.proofs.Common.{◌≡◌, ◌+◌, ◌-◌, ◌*◌, ◌≤◌, length, take, drop}
+use Rattle.std.proofs.Common.{◌≡◌, ◌+◌, ◌-◌, ◌≤◌, length, drop}
 use Rattle.layout.specs.Reading.{directions}
 use Rattle.task.specs.Task.{accesses_of}
 use Rattle.message.proofs.Prefix.{prefixed}

@@ -1,17 +1,17 @@
-use Rattle.std.proofs.Common.{◌≡◌, ℕ, suc, ◌+◌, ◌-◌, ◌<◌, ◌≤◌, List, [], ◌∷◌, length, get_or, take, drop, sym, refl, ap, ◌∙◌, arith, drop-cons, rules}
+use Rattle.std.proofs.Common.{◌≡◌, ℕ, suc, ◌+◌, ◌-◌, ◌≤◌, List, [], ◌∷◌, length, get_or, take, drop, sym, ap, ◌∙◌, drop-cons, rules}
 use Rattle.std.proofs.lemmas.List.{drop_all}
 use Rattle.layout.specs.Reading.{read}
 use Rattle.message.proofs.Header.{two_there, behind_two}
 use Rattle.message.proofs.reader.header.Goals as goal
 
-pub returns-in-default : goal.returns-in-default
-returns-in-default c =
+pub returns-in_default : goal.returns-in_default
+returns-in_default c =
     let bytes = c.args.bytes.now in
     let at = c.args.place.now.at in
     let short : length bytes ≤ suc at = search rules in
     let one : drop at bytes ≡ get_or bytes at 0 ∷ [] =
     drop-cons bytes at 0 c.requires ∙ ap (λ (bs : List ℕ). get_or bytes at 0 ∷ bs) (drop_all (suc at) bytes short) in
-    ap (read at) one ∙ c.one-byte.ensures at
+    ap (read at) one ∙ c.one_byte.ensures at
 
 pub returns-then-version-ne-VERSION : goal.returns-then-version-ne-VERSION
 returns-then-version-ne-VERSION c =

@@ -1,7 +1,7 @@
-use Rattle.std.proofs.Common.{◌≡◌, ℕ, ◌+◌, ◌<◌, ◌≤◌, true, false, List, [], length, get_or, drop, vec_items, vec_len, vec_capacity, sym, refl, ap, ◌∙◌, subst, arith}
+use Rattle.std.proofs.Common.{◌≡◌, ◌+◌, true, false, List, [], get_or, drop, vec_items, vec_len, vec_capacity, sym, refl, ap, ◌∙◌, subst, arith}
 use Rattle.task.specs.Access.{Numbered, reads, numbered, readers}
 use Rattle.task.proofs.Some.{blank}
-use Rattle.host.specs.Meaning.{Fixed, Values}
+use Rattle.host.specs.Meaning.{Fixed}
 use Rattle.one_at_a_time.specs.Alone.{AllHeld}
 use Rattle.one_at_a_time.proofs.Numbering.{numbered_more, numbered_none, held_more}
 use Rattle.one_at_a_time.proofs.Bringing.{Bringing, bring_more, bring_all, same_bringing}
@@ -14,8 +14,8 @@ loop-access-init g c =
     let none : vec_items c.args.read.now ≡ [] = no_items c.args.read.now c.requires.empty in
     (omega arith, c.requires.empty, c.requires.room, refl, c.requires.held, record { count = omega arith; read = rw none; values = refl })
 
-pub bring-one-requires : goal.bring-one-requires
-bring-one-requires g c =
+pub bring_one-requires : goal.bring_one-requires
+bring_one-requires g c =
     let inv = c.loop-access.invariant in
     let h = g.H.Host.fixed c.args.host.now in
     let here = held_more c.args.accesses.now c.loop-access.access-index c.loop-access-test.true h inv.4 in
@@ -42,17 +42,17 @@ loop-access-preserved g c =
     elim c.if-reads.branch [
       | then-reads w ↦
           let cut = numbered_more xs i lt reads true (sym w.if-reads.ensures) in
-          let cap : vec_capacity c.if-reads.read ≡ vec_capacity c.loop-access.read = ap vec_capacity w.read-is ∙ w.bring-one.ensures.room in
-          let len : vec_len c.if-reads.read ≡ vec_len c.loop-access.read + 1 = ap vec_len w.read-is ∙ w.bring-one.ensures.len in (
+          let cap : vec_capacity c.if-reads.read ≡ vec_capacity c.loop-access.read = ap vec_capacity w.read-is ∙ w.bring_one.ensures.room in
+          let len : vec_len c.if-reads.read ≡ vec_len c.loop-access.read + 1 = ap vec_len w.read-is ∙ w.bring_one.ensures.len in (
             omega (arith, w.n-is, inv.0),
             omega (arith, w.n-is, len, inv.1),
             omega (arith, cap, inv.2),
-            ap g.H.Host.fixed w.host-is ∙ w.bring-one.ensures.fixed ∙ inv.3,
+            ap g.H.Host.fixed w.host-is ∙ w.bring_one.ensures.fixed ∙ inv.3,
             there,
             bring_more w0 (readers xs) left (record { number = i; address = (get_or xs i blank).address }) n c.if-reads.n items (vec_items c.if-reads.read) values (g.H.Host.values c.if-reads.host)
                 w.n-is
-                (ap vec_items w.read-is ∙ w.bring-one.ensures.read)
-                (ap g.H.Host.values w.host-is ∙ w.bring-one.ensures.values)
+                (ap vec_items w.read-is ∙ w.bring_one.ensures.read)
+                (ap g.H.Host.values w.host-is ∙ w.bring_one.ensures.values)
                 (subst P cut inv.5),
           )
       | else-reads w ↦

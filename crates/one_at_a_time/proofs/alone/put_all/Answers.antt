@@ -1,7 +1,7 @@
-use Rattle.std.proofs.Common.{◌≡◌, ℕ, ◌+◌, ◌<◌, ◌≤◌, true, false, List, [], ◌∷◌, ◌++◌, length, get_or, drop, vec_items, vec_len, vec_capacity, sym, refl, ap, ◌∙◌, subst, arith}
+use Rattle.std.proofs.Common.{◌≡◌, ◌+◌, ◌<◌, true, false, List, [], ◌∷◌, ◌++◌, length, get_or, drop, vec_items, vec_len, vec_capacity, sym, refl, ap, ◌∙◌, subst, arith}
 use Rattle.task.specs.Access.{Numbered, writes, numbered, writers}
 use Rattle.task.proofs.Some.{blank}
-use Rattle.host.specs.Meaning.{Fixed, Values, row, worked}
+use Rattle.host.specs.Meaning.{Fixed, row, worked}
 use Rattle.one_at_a_time.specs.Alone.{AllHeld}
 use Rattle.one_at_a_time.proofs.Empty.{no_items}
 use Rattle.one_at_a_time.proofs.Numbering.{numbered_more, numbered_none, held_more}
@@ -14,8 +14,8 @@ loop-i-init g c =
     let none : vec_items c.args.wrote.now ≡ [] = no_items c.args.wrote.now c.requires.empty in
     (omega (arith, c.requires.empty), c.requires.room, refl, c.requires.held, record { wrote = rw none; values = refl })
 
-pub put-one-requires : goal.put-one-requires
-put-one-requires g c =
+pub put_one-requires : goal.put_one-requires
+put_one-requires g c =
     let inv = c.loop-i.invariant in
     let xs = c.args.accesses.now in
     let i = c.loop-i.i in
@@ -47,15 +47,15 @@ loop-i-preserved g c =
     elim c.if-writes.branch [
       | then-writes w ↦
           let cut = numbered_more xs i lt writes true (sym w.if-writes.ensures) in
-          let cap : vec_capacity c.if-writes.wrote ≡ vec_capacity c.loop-i.wrote = ap vec_capacity w.wrote-is ∙ w.put-one.ensures.room in
-          let len : vec_len c.if-writes.wrote ≡ vec_len c.loop-i.wrote + 1 = ap vec_len w.wrote-is ∙ w.put-one.ensures.len in (
+          let cap : vec_capacity c.if-writes.wrote ≡ vec_capacity c.loop-i.wrote = ap vec_capacity w.wrote-is ∙ w.put_one.ensures.room in
+          let len : vec_len c.if-writes.wrote ≡ vec_len c.loop-i.wrote + 1 = ap vec_len w.wrote-is ∙ w.put_one.ensures.len in (
             omega (arith, len, inv.0),
             omega (arith, cap, inv.1),
-            ap g.H.Host.fixed w.host-is ∙ w.put-one.ensures.fixed ∙ inv.2,
+            ap g.H.Host.fixed w.host-is ∙ w.put_one.ensures.fixed ∙ inv.2,
             there,
             put_more h kind n w0 (writers xs) left x items (vec_items c.if-writes.wrote) values (g.H.Host.values c.if-writes.host)
-                (ap vec_items w.wrote-is ∙ w.put-one.ensures.wrote ∙ ap (λ (f : Fixed V). items ++ (f.rule kind i (row 0 n (values.aside 0)) ∷ [])) inv.2)
-                (ap g.H.Host.values w.host-is ∙ w.put-one.ensures.values ∙ ap (λ (f : Fixed V). worked f kind i n 0 x.address values) inv.2)
+                (ap vec_items w.wrote-is ∙ w.put_one.ensures.wrote ∙ ap (λ (f : Fixed V). items ++ (f.rule kind i (row 0 n (values.aside 0)) ∷ [])) inv.2)
+                (ap g.H.Host.values w.host-is ∙ w.put_one.ensures.values ∙ ap (λ (f : Fixed V). worked f kind i n 0 x.address values) inv.2)
                 (subst P cut inv.4),
           )
       | else-writes w ↦

@@ -1,4 +1,4 @@
-use Rattle.std.proofs.Common.{◌≡◌, ℕ, suc, ◌+◌, ◌-◌, ◌<◌, ◌≤◌, List, [], ◌∷◌, ◌++◌, length, get_or, sym, refl, ap, ◌∙◌, add-one, arith}
+use Rattle.std.proofs.Common.{◌≡◌, suc, ◌-◌, List, ◌∷◌, get_or, refl, ap, ◌∙◌, add-one, arith}
 use Rattle.queue.specs.Contents.{contents}
 use Rattle.queue.proofs.Turns.{popped, round_turn}
 use Rattle.queue.proofs.Line.pop.Goals as goal

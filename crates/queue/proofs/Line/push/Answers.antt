@@ -1,4 +1,4 @@
-use Rattle.std.proofs.Common.{◌≡◌, ℕ, ◌+◌, ◌-◌, ◌<◌, ◌≤◌, true, false, cond, eqb, ltb, List, [], ◌∷◌, ◌++◌, length, set, sym, refl, ap, ◌∙◌, arith, rules}
+use Rattle.std.proofs.Common.{◌≡◌, ℕ, ◌-◌, ◌<◌, ◌≤◌, true, false, eqb, ltb, length, set, refl, ap, arith, rules}
 use Rattle.queue.specs.Contents.{turned, contents, next_slot}
 use Rattle.queue.proofs.Turns.{length_contents, set_near, set_round, pushed}
 use Rattle.queue.proofs.Line.push.Goals as goal

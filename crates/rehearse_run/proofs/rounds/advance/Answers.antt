@@ -9,14 +9,14 @@ use Rattle.rehearse_run.specs.Rounds.{lines_of, Answered, Goes}
 use Rattle.rehearse_run.proofs.Going.{made_more, fed_not, place_stays, goes_fed, goes_refused}
 use Rattle.rehearse_run.proofs.rounds.advance.Goals as goal
 
-pub returns-in-ok-note-fed : goal.returns-in-ok-note-fed
-returns-in-ok-note-fed c =
+pub returns-in_ok-note_fed-in-Ok : goal.returns-in_ok-note_fed-in-Ok
+returns-in_ok-note_fed-in-Ok c =
     let m = setting_with c.args.manager.now (fixed_of c.args.host.now) in
     let b = state_with c.args.manager.now (values_of c.args.host.now) in
     record {
       goes = goes_fed m c.args.reader.now.bytes.now c.args.reader.now.place.at b (lines_of (vec_items c.args.lines.now)) c.in-Ok.fed c.in-Ok.ensures.answer
           c.feed.new.reader.place.at c.feed.ensures.place (state_with c.feed.new.manager (values_of c.args.host.now)) c.feed.ensures.after
-          (lines_of (vec_items c.note-fed.new.lines)) c.in-ok-note-fed.ensures;
+          (lines_of (vec_items c.note_fed.new.lines)) c.in_ok-note_fed-in-Ok.ensures;
       bytes = c.feed.ensures.bytes;
       fixed = refl {a = fixed_of c.args.host.now};
       tables = c.feed.ensures.tables;

@@ -22,7 +22,7 @@ loop-round-preserved c =
     let after = lines_of (vec_items c.advance.new.lines) in
     let lt : i < rounds = omega (arith, rounds_are, c.loop-round-test.true) in
     let same : k ≡ m = same_setting c.advance.ensures.tables c.advance.ensures.fixed in
-    let goes : Goes m bytes place b before On at d after = subst (λ (x : Next). Goes m bytes place b before x at d after) c.in-On.is c.in-ok-advance.ensures.goes in (
+    let goes : Goes m bytes place b before On at d after = subst (λ (x : Next). Goes m bytes place b before x at d after) c.in-On.is c.in_ok-advance.ensures.goes in (
       c.advance.ensures.fixed ∙ c.loop-round.invariant.0,
       round_lines m bytes i lt place at b d before after goes k same c.advance.new.reader.bytes.now c.advance.ensures.bytes ∙ c.loop-round.invariant.1,
       round_state m bytes i lt place at b d before after goes k same c.advance.new.reader.bytes.now c.advance.ensures.bytes ∙ c.loop-round.invariant.2,
@@ -40,7 +40,7 @@ returns-in-Stop c =
     let at = c.advance.new.reader.place.at in
     let after = lines_of (vec_items c.advance.new.lines) in
     let lt : i < rounds = omega (arith, rounds_are, c.loop-round-test.true) in
-    let goes : Goes m bytes place b before Stop at d after = subst (λ (x : Next). Goes m bytes place b before x at d after) c.in-Stop.is c.in-ok-advance.ensures.goes in
+    let goes : Goes m bytes place b before Stop at d after = subst (λ (x : Next). Goes m bytes place b before x at d after) c.in-Stop.is c.in_ok-advance.ensures.goes in
     record {
       went = record {
         lines = stop_lines m bytes i lt place at b d before after goes _ c.loop-round.invariant.1;
@@ -63,7 +63,7 @@ returns-in-Drain c =
     let after = lines_of (vec_items c.advance.new.lines) in
     let lt : i < rounds = omega (arith, rounds_are, c.loop-round-test.true) in
     let same : k ≡ m = same_setting c.advance.ensures.tables c.advance.ensures.fixed in
-    let goes : Goes m bytes place b before Drain at d after = subst (λ (x : Next). Goes m bytes place b before x at d after) c.in-Drain.is c.in-ok-advance.ensures.goes in
+    let goes : Goes m bytes place b before Drain at d after = subst (λ (x : Next). Goes m bytes place b before x at d after) c.in-Drain.is c.in_ok-advance.ensures.goes in
     let most = 131584 - i in
     let fuel : most ≡ rounds - i = omega (arith, rounds_are) in
     let z = state_with c.drain.new.manager (values_of c.drain.new.host) in

@@ -11,7 +11,7 @@ returns c =
     let b = state_with c.args.manager.now (values_of c.args.host.now) in
     record {
       answered = answered_no m c.args.number b c.if-number-eq1.false (sym c.if-stalls.ensures) (vec_items c.args.lines.now) (vec_items c.push.new.self)
-          c.in-ok-push.ensures.items;
+          c.in_ok-push.ensures.items;
       fixed = refl {a = fixed_of c.args.host.now};
       tables = refl {a = tables_of c.args.manager.now.inner};
     }

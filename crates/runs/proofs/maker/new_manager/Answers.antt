@@ -1,7 +1,7 @@
-use Rattle.std.proofs.Common.{◌≡◌, ℕ, [], IfOk, Ok, Err, Result, sym, refl, ap, ◌∙◌}
+use Rattle.std.proofs.Common.{◌≡◌, ℕ, [], IfOk, Ok, Err, Result, ap}
 use Rattle.host.specs.Meaning.{Fixed, Values}
 use Rattle.roll.specs.Tables.{Tables, tables}
-use Rattle.roll.specs.Calls.{Setting, setting, State, made, numbers}
+use Rattle.roll.specs.Calls.{setting, made, numbers}
 use Rattle.manager.specs.declared.manager.Manager.{Manager}
 use Rattle.manager.specs.Model.{roll_of, ready_of, free_of, tables_of}
 use Rattle.manager.specs.Answers.{state_with, setting_with}

@@ -22,11 +22,11 @@ loop-call-preserved g c =
     let i = c.loop-call.call-index in
     let lt = c.loop-call-test.true in
     let same : n ≡ m = same_setting c.perform-answer.ensures.tables c.perform-answer.ensures.fixed in (
-      omega (arith, c.loop-call.invariant.0, c.push-reserved.ensures.len, c.push-reserved.ensures.capacity),
+      omega (arith, c.loop-call.invariant.0, c.push_reserved.ensures.len, c.push_reserved.ensures.capacity),
       c.perform-answer.ensures.fixed ∙ c.loop-call.invariant.1,
       c.perform-answer.ensures.tables ∙ c.loop-call.invariant.2,
-      answers_more cs i blank lt m n b a (vec_items c.loop-call.answers) (vec_items c.push-reserved.new.self) c.perform-answer.result same
-          c.perform-answer.ensures.answer c.perform-answer.ensures.after c.push-reserved.ensures.items ∙ c.loop-call.invariant.3,
+      answers_more cs i blank lt m n b a (vec_items c.loop-call.answers) (vec_items c.push_reserved.new.self) c.perform-answer.result same
+          c.perform-answer.ensures.answer c.perform-answer.ensures.after c.push_reserved.ensures.items ∙ c.loop-call.invariant.3,
       state_more cs i blank lt m n b a same c.perform-answer.ensures.after ∙ c.loop-call.invariant.4,
     )
 

@@ -27,19 +27,19 @@ returns g c =
     let f = g.H.Host.fixed c.args.host.now in
     let w = g.H.Host.values c.args.host.now in
     let m = setting f c.args.seats c.args.versions in
-    let n = setting_with c.in-ok-manager.manager f in
-    let b = state_with c.in-ok-manager.manager w in
-    let a = state_with c.perform-all.new.manager (g.H.Host.values c.perform-all.new.host) in
+    let n = setting_with c.in_ok-manager.manager f in
+    let b = state_with c.in_ok-manager.manager w in
+    let a = state_with c.perform_all.new.manager (g.H.Host.values c.perform_all.new.host) in
     let cs = calls_of c.args.calls.now in
-    let same = c.in-ok-manager.ensures.setting in
-    let new = c.in-ok-manager.ensures.state in
-    let lawful = c.in-ok-manager.ensures.law cs in
+    let same = c.in_ok-manager.ensures.setting in
+    let new = c.in_ok-manager.ensures.state in
+    let lawful = c.in_ok-manager.ensures.law cs in
     record {
-      answers = new-answers m n w b cs same new (vec_items c.in-ok-answers.answers) (vec_items c.perform-all.new.answers)
-          c.in-ok-answers.ensures.items c.perform-all.ensures.answers;
-      state = new-state m n w b cs same new a lawful c.perform-all.ensures.after;
-      setting = same_setting c.perform-all.ensures.tables c.perform-all.ensures.fixed ∙ same;
+      answers = new-answers m n w b cs same new (vec_items c.in_ok-answers.answers) (vec_items c.perform_all.new.answers)
+          c.in_ok-answers.ensures.items c.perform_all.ensures.answers;
+      state = new-state m n w b cs same new a lawful c.perform_all.ensures.after;
+      setting = same_setting c.perform_all.ensures.tables c.perform_all.ensures.fixed ∙ same;
       law = lawful.law;
-      fixed = c.perform-all.ensures.fixed;
+      fixed = c.perform_all.ensures.fixed;
       unmade = λ e. let z : ◌≡◌ {A = ℕ} 0 1 = cc in absurd (omega arith);
     }

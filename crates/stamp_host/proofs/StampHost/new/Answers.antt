@@ -9,10 +9,10 @@ pub returns : goal.returns
 returns c =
     let stamps = c.args.stamps.now in
     let n = min (length stamps) max_stamps in
-    let count : vec_len c.in-ok-stamps.stamps ≡ n = search rules in
-    let items : vec_items c.in-ok-stamps.stamps ≡ take n stamps = search rules in
+    let count : vec_len c.in_ok-stamps.stamps ≡ n = search rules in
+    let items : vec_items c.in_ok-stamps.stamps ≡ take n stamps = search rules in
     record {
       count = count;
       fixed = search rules;
-      values = same_values _ (values_from stamps).at _ _ (λ a. rw (count, items) (masked_same _ _ _ 0 (λ on. get_or-take n stamps a 0 (ltb-true a n on)))) c.in-ok-aside.ensures;
+      values = same_values _ (values_from stamps).at _ _ (λ a. rw (count, items) (masked_same _ _ _ 0 (λ on. get_or-take n stamps a 0 (ltb-true a n on)))) c.in_ok-aside.ensures;
     }

@@ -11,11 +11,11 @@ pub returns : goal.returns
 returns c =
     let tiles = c.args.tiles.now in
     let n = min (length tiles) max_tiles in
-    let count : vec_len c.in-ok-tiles.tiles ≡ n = search rules in
-    let items : vec_items c.in-ok-tiles.tiles ≡ take n tiles = search rules in
+    let count : vec_len c.in_ok-tiles.tiles ≡ n = search rules in
+    let items : vec_items c.in_ok-tiles.tiles ≡ take n tiles = search rules in
     record {
       count = count;
       fixed = search rules;
       values = same_values _ (values_from tiles).at _ _
-          (λ a. rw (count, items) (masked_same _ _ _ blank (λ on. let low : a / 16 < n = grind (arith, nat_tests) in get_or-take n tiles (a / 16) blank low))) (rw c.blank-tile.ensures at c.in-ok-aside.ensures);
+          (λ a. rw (count, items) (masked_same _ _ _ blank (λ on. let low : a / 16 < n = grind (arith, nat_tests) in get_or-take n tiles (a / 16) blank low))) (rw c.blank_tile.ensures at c.in_ok-aside.ensures);
     }

@@ -6,7 +6,7 @@ use Rattle.manager.specs.Model.{ready_of}
 use Rattle.manager.proofs.Entering.{state_entered, tables_entered, sound_entered}
 use Rattle.manager.proofs.EnteringSteps.{popped, occupied_task, occupied_standing, joined, lent_free, lent, pushed, readied, entering}
 use Rattle.manager.proofs.inner.Inner.enter.Goals as goal
-use Rattle.manager.proofs.inner.Inner.enter.Goals.{in-Some, in-default}
+use Rattle.manager.proofs.inner.Inner.enter.Goals.{in-Some, in_default}
 
 -- the task may run: the ready line has it too
 pub returns-then-not-blocked : goal.returns-then-not-blocked
@@ -22,7 +22,7 @@ returns-then-not-blocked c =
       | in-Some w ↦
           let occupant = w.in-Some.occupant.now in
           let occupied = w.occupy.new.self in
-          let free = lent_free i sound s task rest first occupant w.in-Some.ensures.follows.1 in
+          let free = lent_free i sound s task rest first occupant w.in-Some.ensures.follows_facts.1 in
           let order = pushed i sound s task rest first c.match-find.self.order c.push.new.self c.push.result (ap (λ (k : Inner). k.order) w.self-is)
           c.push.ensures.answer c.push.ensures.listed in
           let line = readied i sound s task rest first c.match-find.self.ready c.push-then-not-blocked.new.self c.push-then-not-blocked.result
@@ -35,7 +35,7 @@ returns-then-not-blocked c =
           (occupied_task occupant occupied task free w.occupy.ensures.task)
           (occupied_standing occupant occupied (accesses_of task) b free w.occupy.ensures.standing) order ready tables in
           record { after = state_entered i _ s task b sound e; tables = tables_entered i _ s task b sound e; sound = sound_entered i _ s task b sound e }
-      | in-default w ↦ absurd (both_ways (ltb s (vec_len i.table.records)) (sym w.in-default.ensures.follows.0) (lent i sound s task rest first))
+      | in_default w ↦ absurd (both_ways (ltb s (vec_len i.table.records)) (sym w.in_default.ensures.follows_facts.0) (lent i sound s task rest first))
     ]
 
 -- the task waits: the ready line stays
@@ -52,7 +52,7 @@ returns-else-not-blocked c =
       | in-Some w ↦
           let occupant = w.in-Some.occupant.now in
           let occupied = w.occupy.new.self in
-          let free = lent_free i sound s task rest first occupant w.in-Some.ensures.follows.1 in
+          let free = lent_free i sound s task rest first occupant w.in-Some.ensures.follows_facts.1 in
           let order = pushed i sound s task rest first c.match-find.self.order c.push.new.self c.push.result (ap (λ (k : Inner). k.order) w.self-is)
           c.push.ensures.answer c.push.ensures.listed in
           let ready = ap (λ (k : Inner). ready_of k) w.self-is ∙ ap (λ (v : Bool). cond v (ready_of i) (ready_of i ++ (s ∷ []))) (sym c.if-not-blocked.false) in
@@ -63,5 +63,5 @@ returns-else-not-blocked c =
           (occupied_task occupant occupied task free w.occupy.ensures.task)
           (occupied_standing occupant occupied (accesses_of task) b free w.occupy.ensures.standing) order ready tables in
           record { after = state_entered i _ s task b sound e; tables = tables_entered i _ s task b sound e; sound = sound_entered i _ s task b sound e }
-      | in-default w ↦ absurd (both_ways (ltb s (vec_len i.table.records)) (sym w.in-default.ensures.follows.0) (lent i sound s task rest first))
+      | in_default w ↦ absurd (both_ways (ltb s (vec_len i.table.records)) (sym w.in_default.ensures.follows_facts.0) (lent i sound s task rest first))
     ]

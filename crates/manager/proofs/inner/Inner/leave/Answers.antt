@@ -23,7 +23,7 @@ use Rattle.manager.proofs.Left.{free_room, left_all}
 use Rattle.manager.proofs.Roused.{lent_is}
 use Rattle.manager.proofs.Seats.{seat_listed}
 use Rattle.manager.proofs.inner.Inner.leave.Goals as goal
-use Rattle.manager.proofs.inner.Inner.leave.Goals.{in-Some, in-default}
+use Rattle.manager.proofs.inner.Inner.leave.Goals.{in-Some, in_default}
 
 pub returns : goal.returns
 returns c =
@@ -42,7 +42,7 @@ returns c =
           let x : Seat = w.in-Some.occupant.now in
           let y : Seat = w.on.new.self in
           let e = w.self-is in
-          let was : x.standing ≡ Running Done = ap (λ (z : Seat). z.standing) (lent_is i s x full low w.in-Some.ensures.follows.1) ∙ c.requires.done in
+          let was : x.standing ≡ Running Done = ap (λ (z : Seat). z.standing) (lent_is i s x full low w.in-Some.ensures.follows_facts.1) ∙ c.requires.done in
           let standing : y.standing ≡ Free = w.on.ensures.standing ∙ ap (λ (st : Standing). or_else (moved (accesses_of x.task) st Finished) st) was in
           let room : c.push.result ≡ true = c.push.ensures.answer ∙ ap (λ (z : Inner). ltb (length (free_of z)) 256) e ∙ lt-ltb (length (free_of i)) 256 (free_room i k.seated s taken) in
           let free : contents_of c.push.new.self ≡ free_of i ++ (s ∷ []) =
@@ -69,5 +69,5 @@ returns c =
             tables = ap₂ (λ (a b : ℕ). record { seats = a; versions = b; set_of = (tables_of i).set_of }) seats versions;
             waking = all.1;
           }
-      | in-default w ↦ absurd (both_ways (ltb s (vec_len i.table.records)) (sym w.in-default.ensures.follows.0) (lt-ltb s (vec_len i.table.records) (rw full low)))
+      | in_default w ↦ absurd (both_ways (ltb s (vec_len i.table.records)) (sym w.in_default.ensures.follows_facts.0) (lt-ltb s (vec_len i.table.records) (rw full low)))
     ]

@@ -16,7 +16,7 @@ returns-then-not-on c =
     let x : Seat = c.in-Some.occupant.now in
     let w : Seat = c.on.new.self in
     let low : s < 256 = omega arith in
-    let same = lent_is i s x c.requires.full low c.in-Some.ensures.follows.1 in
+    let same = lent_is i s x c.requires.full low c.in-Some.ensures.follows_facts.1 in
     let answer = c.if-not-on.ensures.answer in
     let was = waited_if i s x w false same answer in
     record {
@@ -34,10 +34,10 @@ returns c =
     let w : Seat = c.on.new.self in
     let r : Bool = c.push.result in
     let low : s < 256 = omega arith in
-    let same = lent_is i s x c.requires.full low c.in-Some.ensures.follows.1 in
+    let same = lent_is i s x c.requires.full low c.in-Some.ensures.follows_facts.1 in
     let waits : waiting_at i s ≡ true = waited_if i s x w true same c.if-not-on.ensures.answer in
     let room : r ≡ true = c.push.ensures.answer ∙ lt-ltb (length (ready_of i)) 256 (ready_room i c.requires s low waits) in
-    let idle : eqb (blocked_at i.tracker s) 0 ≡ true = not-false (eqb (blocked_at i.tracker s) 0) (sym c.if-is-blocked.ensures) in
+    let idle : eqb (blocked_at i.tracker s) 0 ≡ true = not-false (eqb (blocked_at i.tracker s) 0) (sym c.if-is_blocked.ensures) in
     let answer = room ∙ sym c.if-not-on.false ∙ c.on.ensures.answer in
     record {
       answer = room ∙ sym (ap (λ (b : Bool). b && eqb (blocked_at i.tracker s) 0) waits ∙ idle);

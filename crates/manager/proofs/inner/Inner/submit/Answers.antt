@@ -1,28 +1,26 @@
-use Rattle.std.proofs.Common.{◌≡◌, ℕ, ◌<◌, ◌≤◌, List, ◌∷◌, length, None, Ok, Err, sym, refl, ap, ◌∙◌, subst, arith}
+use Rattle.std.proofs.Common.{◌≡◌, ℕ, ◌≤◌, length, Err, sym, refl, ap, ◌∙◌, subst, arith}
 use Rattle.std.proofs.lemmas.Result.{err_from_is_err_and}
 use Rattle.fault.specs.declared.ManagerFault.{ManagerFault}
 use Rattle.fault.specs.declared.ManagerFault.TheVariants.{Table}
-use Rattle.task.specs.declared.Access.{Access}
 use Rattle.task.specs.Task.{accesses_of}
 use Rattle.claims.specs.Queues.{Apart}
-use Rattle.roll.specs.Calls.{State, Outcome, refused, succeeded, accepted}
+use Rattle.roll.specs.Calls.{refused}
 use Rattle.roll.specs.Built.{left_by}
-use Rattle.host.specs.Meaning.{Values}
 use Rattle.manager.specs.Model.{state_of, tables_of, roll_of, free_of}
-use Rattle.manager.specs.Answers.{submit_answer, no_values}
+use Rattle.manager.specs.Answers.{submit_answer}
 use Rattle.manager.specs.Entered.{table_fault}
 use Rattle.manager.proofs.Submits.{apart_from, unless_ok, unless_err, submission, check_refuses, seat_refuses, seat_gives, entered_beside}
 use Rattle.manager.proofs.inner.Inner.submit.Goals as goal
 
-pub returns-in-err-check : goal.returns-in-err-check
-returns-in-err-check g c =
+pub returns-in_err-check : goal.returns-in_err-check
+returns-in_err-check g c =
     let i = c.args.self.now in
     let w = g.H.Host.values c.args.host.now in
     let held = (g.H.Host.fixed c.args.host.now).held in
     let xs = c.args.accesses.now in
-    let p = err_from_is_err_and c.from-residual.result c.from-residual.ensures.1 in
-    let no : submission (state_of i w) c.args.name c.args.kind xs (tables_of i) held ≡ refused c.in-err-check.field-0.0 =
-    check_refuses (state_of i w) c.args.name c.args.kind xs (tables_of i) held c.in-err-check.field-0.0 (unless_err _ _ c.in-err-check.ensures) in
+    let p = err_from_is_err_and c.from_residual.result c.from_residual.ensures.1 in
+    let no : submission (state_of i w) c.args.name c.args.kind xs (tables_of i) held ≡ refused c.in_err-check.field-0.0 =
+    check_refuses (state_of i w) c.args.name c.args.kind xs (tables_of i) held c.in_err-check.field-0.0 (unless_err _ _ c.in_err-check.ensures) in
     record {
       answer = p.1 ∙ ap (λ (f : ManagerFault). Err f) p.2 ∙ sym (ap submit_answer no);
       after = sym (ap (left_by (state_of i w)) no);
@@ -31,18 +29,18 @@ returns-in-err-check g c =
       sound = c.requires;
     }
 
-pub seat-for-requires : goal.seat-for-requires
-seat-for-requires g c = record { sound = c.requires; few = (apart_from (g.H.Host.fixed c.args.host.now).held c.args.accesses.now (unless_ok _ tt c.in-ok-check.ensures)).0 }
+pub seat_for-requires : goal.seat_for-requires
+seat_for-requires g c = record { sound = c.requires; few = (apart_from (g.H.Host.fixed c.args.host.now).held c.args.accesses.now (unless_ok _ tt c.in_ok-check.ensures)).0 }
 
-pub returns-in-err-seat : goal.returns-in-err-seat
-returns-in-err-seat g c =
+pub returns-in_err-seat : goal.returns-in_err-seat
+returns-in_err-seat g c =
     let i = c.args.self.now in
     let w = g.H.Host.values c.args.host.now in
     let held = (g.H.Host.fixed c.args.host.now).held in
     let xs = c.args.accesses.now in
-    let p = err_from_is_err_and c.from-residual-in-err-seat.result c.from-residual-in-err-seat.ensures.1 in
-    let no : submission (state_of i w) c.args.name c.args.kind xs (tables_of i) held ≡ refused (Table c.in-err-seat.field-0.0) =
-    seat_refuses (state_of i w) c.args.name c.args.kind xs (tables_of i) held (unless_ok _ tt c.in-ok-check.ensures) c.in-err-seat.field-0.0 c.in-err-seat.ensures in
+    let p = err_from_is_err_and c.from_residual-in_err-seat.result c.from_residual-in_err-seat.ensures.1 in
+    let no : submission (state_of i w) c.args.name c.args.kind xs (tables_of i) held ≡ refused (Table c.in_err-seat.field-0.0) =
+    seat_refuses (state_of i w) c.args.name c.args.kind xs (tables_of i) held (unless_ok _ tt c.in_ok-check.ensures) c.in_err-seat.field-0.0 c.in_err-seat.ensures in
     record {
       answer = p.1 ∙ ap (λ (f : ManagerFault). Err f) p.2 ∙ sym (ap submit_answer no);
       after = sym (ap (left_by (state_of i w)) no);
@@ -51,10 +49,10 @@ returns-in-err-seat g c =
       sound = c.requires;
     }
 
-pub returns-in-err-task : goal.returns-in-err-task
-returns-in-err-task g c =
-    let few : length c.args.accesses.now ≤ 15 = (apart_from (g.H.Host.fixed c.args.host.now).held c.args.accesses.now (unless_ok _ tt c.in-ok-check.ensures)).0 in
-    absurd (omega (arith, few, c.in-err-task.ensures.cases.0))
+pub returns-in_err-task : goal.returns-in_err-task
+returns-in_err-task g c =
+    let few : length c.args.accesses.now ≤ 15 = (apart_from (g.H.Host.fixed c.args.host.now).held c.args.accesses.now (unless_ok _ tt c.in_ok-check.ensures)).0 in
+    absurd (omega (arith, few, c.in_err-task.ensures.cases.0))
 
 pub enter-requires : goal.enter-requires
 enter-requires g c =
@@ -62,9 +60,9 @@ enter-requires g c =
     let w = g.H.Host.values c.args.host.now in
     let held = (g.H.Host.fixed c.args.host.now).held in
     let xs = c.args.accesses.now in
-    let fine = unless_ok _ tt c.in-ok-check.ensures in
-    let same : accesses_of c.in-ok-task.task ≡ xs = c.in-ok-task.ensures.cases.3 in
-    let given = seat_gives (state_of i w) c.args.name c.args.kind xs (tables_of i) held fine c.in-ok-seat.seat c.in-ok-seat.ensures in
+    let fine = unless_ok _ tt c.in_ok-check.ensures in
+    let same : accesses_of c.in_ok-task.task ≡ xs = c.in_ok-task.ensures.cases.3 in
+    let given = seat_gives (state_of i w) c.args.name c.args.kind xs (tables_of i) held fine c.in_ok-seat.seat c.in_ok-seat.ensures in
     record {
       sound = c.requires;
       first = (given.1.0, given.1.1);
@@ -78,11 +76,11 @@ returns g c =
     let w = g.H.Host.values c.args.host.now in
     let held = (g.H.Host.fixed c.args.host.now).held in
     let xs = c.args.accesses.now in
-    let s = c.in-ok-seat.seat in
-    let fine = unless_ok _ tt c.in-ok-check.ensures in
-    let task = c.in-ok-task.task in
-    let given = seat_gives (state_of i w) c.args.name c.args.kind xs (tables_of i) held fine s c.in-ok-seat.ensures in
-    let told = c.in-ok-task.ensures.cases in
+    let s = c.in_ok-seat.seat in
+    let fine = unless_ok _ tt c.in_ok-check.ensures in
+    let task = c.in_ok-task.task in
+    let given = seat_gives (state_of i w) c.args.name c.args.kind xs (tables_of i) held fine s c.in_ok-seat.ensures in
+    let told = c.in_ok-task.ensures.cases in
     let ok = given.1.2 in
     record {
       answer = sym (ap submit_answer ok);

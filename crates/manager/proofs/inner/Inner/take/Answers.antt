@@ -35,7 +35,7 @@ returns c =
     let was = first_ready i c.requires.seated s (contents_of line) first in
     let held : free_at i s ≡ false = ap is_free was in
     let low = seat_low i c.requires.seated s held in
-    let read : old ≡ seat_at i s = seat_read i s old c.requires.seated.full low c.in-Some-find.ensures.follows.1 in
+    let read : old ≡ seat_at i s = seat_read i s old c.requires.seated.full low c.in-Some-find.ensures.follows_facts.1 in
     let task : new.task ≡ (seat_at i s).task = c.on.ensures.task ∙ ap (λ (r : Seat). r.task) read in
     let stands : new.standing ≡ Running (first_phase (accesses_of (seat_at i s).task)) =
     c.on.ensures.standing

@@ -6,13 +6,13 @@ use Rattle.manager.specs.declared.inner.Inner.{Inner}
 use Rattle.manager.specs.Model.{tables_of}
 use Rattle.manager.proofs.Awake.{Walked, line_at, line_none, walk_start, place_none, place_seat, line_few, line_woken, awake_state, awake_sound}
 use Rattle.manager.proofs.inner.Inner.wake.Goals as goal
-use Rattle.manager.proofs.inner.Inner.wake.Goals.{in-Some+then-rouse, in-Some+else-rouse, in-default}
+use Rattle.manager.proofs.inner.Inner.wake.Goals.{in-Some+then-rouse, in-Some+else-rouse, in_default}
 
 pub loop-place-init : goal.loop-place-init
 loop-place-init c = (walk_start c.args.self.now c.args.span c.requires, sym (ap length (line_none c.args.self.now c.args.span c.requires)))
 
-pub overflow-add-count : goal.overflow-add-count
-overflow-add-count c = let few = line_few c.args.self.now c.loop-place.place in let count = c.loop-place.invariant.1 in omega arith
+pub overflow_add-count : goal.overflow_add-count
+overflow_add-count c = let few = line_few c.args.self.now c.loop-place.place in let count = c.loop-place.invariant.1 in omega arith
 
 -- the count and the fields after one place
 pub loop-place-preserved : goal.loop-place-preserved
@@ -33,8 +33,8 @@ loop-place-preserved c =
           (w.count-is ∙ ap (λ (b : Bool). n + tally b) (sym w.if-rouse.true)) w.rouse.ensures.answer w.rouse.ensures.after
       | in-Some+else-rouse w ↦ roused w.in-Some.seat w.rouse.result w.rouse.new.self w.in-Some.ensures.cases w.self-is
           (w.count-is ∙ sym (add-zero n) ∙ ap (λ (b : Bool). n + tally b) (sym w.if-rouse.false)) w.rouse.ensures.answer w.rouse.ensures.after
-      | in-default w ↦
-          let r = place_none i j p n h count w.in-default.ensures.cases in
+      | in_default w ↦
+          let r = place_none i j p n h count w.in_default.ensures.cases in
           (subst (λ (k : Inner). Walked i k (p + 1)) (sym w.self-is) r.0, w.count-is ∙ r.1)
     ]
 

@@ -1,4 +1,4 @@
 use Rattle.manager.proofs.manager.Manager.new.Goals as goal
 
-pub invariant-of-result : goal.invariant-of-result
-invariant-of-result c = (∣ c.in-ok-inner.ensures.sound ∣₁, tt)
+pub invariant_of-result : goal.invariant_of-result
+invariant_of-result c = record { sound = ∣ c.in_ok-inner.ensures.sound ∣₁ }

@@ -4,8 +4,8 @@ use Rattle.manager.proofs.manager.Manager.step.Goals as goal
 pub step-requires : goal.step-requires
 step-requires g c = sound_of c.args.self.now
 
-pub invariant-of-self : goal.invariant-of-self
-invariant-of-self g c = (∣ c.step.ensures.sound ∣₁, tt)
+pub invariant_of-self : goal.invariant_of-self
+invariant_of-self g c = record { sound = ∣ c.step.ensures.sound ∣₁ }
 
 pub returns : goal.returns
 returns g c = record {

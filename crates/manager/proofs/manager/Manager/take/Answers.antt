@@ -4,8 +4,8 @@ use Rattle.manager.proofs.manager.Manager.take.Goals as goal
 pub take-requires : goal.take-requires
 take-requires c = sound_of c.args.self.now
 
-pub invariant-of-self : goal.invariant-of-self
-invariant-of-self c = (∣ c.take.ensures.sound ∣₁, tt)
+pub invariant_of-self : goal.invariant_of-self
+invariant_of-self c = record { sound = ∣ c.take.ensures.sound ∣₁ }
 
 pub returns : goal.returns
 returns c = record {

@@ -6,13 +6,13 @@ use Rattle.seat.proofs.Next.{next_after}
 use Rattle.seat.proofs.seats.methods.after_bring.Goals as goal
 
 -- no more values have been brought than there are accesses
-pub overflow-add-brought : goal.overflow-add-brought
-overflow-add-brought c = let low = bring_low c.args.accesses.now c.args.access c.args.brought c.requires.1 in omega arith
+pub overflow_add-brought : goal.overflow_add-brought
+overflow_add-brought c = let low = bring_low c.args.accesses.now c.args.access c.args.brought c.requires.1 in omega arith
 
 pub returns : goal.returns
 returns c =
     let xs = c.args.accesses.now in
     let i = c.args.access in
-    c.bring-phase.ensures
-    ∙ ap (bring_phase xs (c.args.brought + 1)) (c.next-reading.ensures ∙ next_after reads xs i)
+    c.bring_phase.ensures
+    ∙ ap (bring_phase xs (c.args.brought + 1)) (c.next_reading.ensures ∙ next_after reads xs i)
     ∙ ap (λ (n : ℕ). bring_phase xs n (next_from reads (suc i) (drop (suc i) xs))) (add-one c.args.brought)

@@ -6,4 +6,4 @@ use Rattle.seat.proofs.seats.methods.after_put.Goals as goal
 
 pub returns : goal.returns
 returns c =
-    c.put-phase.ensures ∙ ap (put_phase c.args.brought) (c.next-writing.ensures ∙ next_after writes c.args.accesses.now c.args.access)
+    c.put_phase.ensures ∙ ap (put_phase c.args.brought) (c.next_writing.ensures ∙ next_after writes c.args.accesses.now c.args.access)

@@ -12,9 +12,9 @@ returns-in-Some c =
     let held : h.held c.args.address ≡ true = search rules in
     let low : c.args.address < length (vec_items c.args.self.now.stamps) = search rules in
     let values = c.in-Some.ensures.value 0 in
-    let made : c.stamp-rule-stamp.result ≡ stamp_rule c.args.kind c.args.access (row 0 c.args.n (w.aside c.args.seat)) = cc in
+    let made : c.stamp_rule-stamp.result ≡ stamp_rule c.args.kind c.args.access (row 0 c.args.n (w.aside c.args.seat)) = cc in
     record {
       fixed = refl;
       values = stored_is h w _ c.args.kind c.args.access c.args.n c.args.seat c.args.address _ held (sym c.in-Some.ensures.test) made
-          (written h.held (λ (a : ℕ). a) 0 (vec_items c.args.self.now.stamps) c.args.address c.stamp-rule-stamp.result held low (λ b on same. same));
+          (written h.held (λ (a : ℕ). a) 0 (vec_items c.args.self.now.stamps) c.args.address c.stamp_rule-stamp.result held low (λ b on same. same));
     }

@@ -1,5 +1,5 @@
 use Rattle.std.proofs.Common.{◌≡◌, drop}
-use Rattle.task.specs.Access.{conflicting, some_access, conflict}
+use Rattle.task.specs.Access.{conflict}
 use Rattle.task.proofs.tasks.methods.some_conflict.Given as goal
 
 -- none so far conflicts, so the answer is that for those that are left

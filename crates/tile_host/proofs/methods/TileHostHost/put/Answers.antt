@@ -18,9 +18,9 @@ returns-in-Some c =
     let held : h.held c.args.address ≡ true = search rules in
     let low : c.args.address / 16 < length tiles = search rules in
     let values = c.in-Some.ensures.value blank in
-    let made : c.tile-rule-tile.result ≡ tile_rule c.args.kind (row 0 c.args.n (w.aside c.args.seat)) = cc in
+    let made : c.tile_rule-tile.result ≡ tile_rule c.args.kind (row 0 c.args.n (w.aside c.args.seat)) = cc in
     record {
       fixed = refl;
-      values = stored_is h w _ c.args.kind c.args.-access c.args.n c.args.seat c.args.address _ held (sym c.in-Some.ensures.test) made
-          (written h.held (λ (a : ℕ). a / 16) blank tiles c.args.address c.tile-rule-tile.result held low (λ b. one_place _ c.args.address b held));
+      values = stored_is h w _ c.args.kind c.args._access c.args.n c.args.seat c.args.address _ held (sym c.in-Some.ensures.test) made
+          (written h.held (λ (a : ℕ). a / 16) blank tiles c.args.address c.tile_rule-tile.result held low (λ b. one_place _ c.args.address b held));
     }

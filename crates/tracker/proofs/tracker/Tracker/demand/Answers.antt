@@ -29,15 +29,15 @@ loop-access-preserved c v t short =
     let xs = c.args.accesses.now in
     let i = c.loop-access.access-index in
     let d = c.loop-access.demand in
-    let d' = c.count-in.new.demand in
+    let d' = c.count_in.new.demand in
     let z₀ = (get_or xs i blank).address % 64 in
     let h = c.loop-access.invariant v t short in
     let lt = c.loop-access-test.true in
     let few : d.versions < 255 = (let k = needs_most v xs in omega (arith, k, h.0, short)) in
     let low : get_or d.added z₀ 0 < 255 = (let k = fresh_so_far v z₀ xs i (get_or d.added z₀ 0) (h.1 z₀ (omega arith)) in omega (arith, k, short)) in (
-      needs_more v xs i d.versions d'.versions lt h.0 (c.count-in.ensures.versions v t few),
-      (λ z zl. fresh_more v z xs i (get_or d.added z 0) (get_or d'.added z 0) lt (h.1 z zl) (c.count-in.ensures.added v t low z)),
-      c.count-in.ensures.full low h.2,
+      needs_more v xs i d.versions d'.versions lt h.0 (c.count_in.ensures.versions v t few),
+      (λ z zl. fresh_more v z xs i (get_or d.added z 0) (get_or d'.added z 0) lt (h.1 z zl) (c.count_in.ensures.added v t low z)),
+      c.count_in.ensures.full low h.2,
     )
 
 -- every access is counted

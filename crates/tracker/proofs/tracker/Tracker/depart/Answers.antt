@@ -1,12 +1,12 @@
-use Rattle.std.proofs.Common.{◌≡◌, refl, arith}
+use Rattle.std.proofs.Common.{arith}
 use Rattle.tracker.proofs.Tables.{absent_none}
 use Rattle.tracker.proofs.Draining.{departs, woken_none, woken_same, woken_end}
 use Rattle.tracker.proofs.tracker.Tracker.depart.Goals as goal
 
-pub returns-in-default : goal.returns-in-default
-returns-in-default c =
+pub returns-in_default : goal.returns-in_default
+returns-in_default c =
     record {
-      departed = λ M t l. absurd (let n = absent_none c.args.self.now.table M c.args.address t c.in-default.ensures in let s = l.some in omega (arith, n, s));
+      departed = λ M t l. absurd (let n = absent_none c.args.self.now.table M c.args.address t c.in_default.ensures in let s = l.some in omega (arith, n, s));
       woken = woken_none c.args.self.now c.args.order.now c.args.span.now;
     }
 

@@ -11,9 +11,9 @@ loop-seat-preserved c =
     let t' = c.loop-seat.self in
     let t'' = c.unblock.new.self in
     let o = c.args.order.now in
-    let e = c.promote-at.ensures in
+    let e = c.promote_at.ensures in
     let u = c.unblock.ensures in (
-      (λ r. draining_more t t' t'' c.promote-at.new.self c.args.way c.promote-at.result c.in-Some.seat (c.loop-seat.invariant.0 r) e.answer c.in-Some.is e.tags e.live e.here e.others u.table u.versions u.counts),
+      (λ r. draining_more t t' t'' c.promote_at.new.self c.args.way c.promote_at.result c.in-Some.seat (c.loop-seat.invariant.0 r) e.answer c.in-Some.is e.tags e.live e.here e.others u.table u.versions u.counts),
       woken_more t t' t'' o c.args.span.now c.loop-seat.span c.unblock.new.span c.loop-seat.invariant.1 (woken_same t' _ t'' o c.loop-seat.span c.unblock.new.span refl u.woken),
     )
 
@@ -21,8 +21,8 @@ pub returns : goal.returns
 returns c =
     let t = c.args.self.now in
     let t' = c.loop-seat.self in
-    let e = c.promote-at.ensures in
+    let e = c.promote_at.ensures in
     record {
-      drained = λ r. draining_end t t' c.promote-at.new.self c.args.way _ c.promote-at.result (c.loop-seat.invariant.0 r) e.answer c.in-default.is e.tags e.live e.here e.others refl refl refl;
+      drained = λ r. draining_end t t' c.promote_at.new.self c.args.way _ c.promote_at.result (c.loop-seat.invariant.0 r) e.answer c.in_default.is e.tags e.live e.here e.others refl refl refl;
       woken = woken_end t t' _ c.args.order.now c.args.span.now c.loop-seat.span refl c.loop-seat.invariant.1;
     }

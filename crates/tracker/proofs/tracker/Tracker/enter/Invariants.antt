@@ -1,4 +1,4 @@
-use Rattle.std.proofs.Common.{◌≡◌, ℕ, ◌<◌, ◌≤◌, List, [], ◌∷◌, length, take, None}
+use Rattle.std.proofs.Common.{◌≡◌, ℕ, ◌≤◌, [], ◌∷◌, length, take, None}
 use Rattle.roll.specs.Roll.{Roll}
 use Rattle.roll.specs.Tables.{stall}
 use Rattle.claims.specs.Queues.{Apart}

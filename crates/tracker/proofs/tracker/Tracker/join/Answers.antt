@@ -1,7 +1,6 @@
-use Rattle.std.proofs.Common.{◌≡◌, ℕ, ◌+◌, ◌%◌, ◌<◌, Bool, true, false, ◌||◌, length, sym, refl, ap, ◌∙◌, subst}
+use Rattle.std.proofs.Common.{◌≡◌, Bool, ◌||◌, sym, ap, ◌∙◌, subst}
 use Rattle.task.specs.Access.{writes}
-use Rattle.claims.specs.Claims.{State}
-use Rattle.tracker.specs.Table.{Table, Joined, live_at}
+use Rattle.tracker.specs.Table.{Joined}
 use Rattle.tracker.specs.declared.ways.AddressTable.{AddressTable}
 use Rattle.tracker.proofs.Tracking.{tracked_join}
 use Rattle.tracker.proofs.tracker.Tracker.join.Goals as goal
@@ -14,8 +13,8 @@ returns c v ys k out short room fits =
     let x = c.args.access in
     let r = c.claim-claimed.result in
     let wr : c.writes-writes.result ≡ writes x = c.writes-writes.ensures in
-    let version : c.takes-version-version.result ≡ (writes x || r.fresh) = c.takes-version-version.ensures ∙ ap (λ b. b || r.fresh) wr in
-    tracked_join t t' v s ys x r c.takes-version-version.result k out short room fits
+    let version : c.takes_version-version.result ≡ (writes x || r.fresh) = c.takes_version-version.ensures ∙ ap (λ b. b || r.fresh) wr in
+    tracked_join t t' v s ys x r c.takes_version-version.result k out short room fits
     (λ M table few size.
     subst (λ (w : AddressTable). Joined t.table w M x.address (record { seat = s; writes = writes x }) r) (sym c.count.ensures.table)
     (subst (λ (b : Bool). Joined t.table c.claim-claimed.new.self M x.address (record { seat = s; writes = b }) r) c.writes-writes.ensures

@@ -6,8 +6,8 @@ use Rattle.tracker.proofs.Crowds.{tried_here, tried_later, tried_all}
 use Rattle.tracker.proofs.tracker.Tracker.lowest_full.Goals as goal
 
 -- this set has no room
-pub returns-then-saturating-add-gt-WAYS : goal.returns-then-saturating-add-gt-WAYS
-returns-then-saturating-add-gt-WAYS c =
+pub returns-then-saturating_add-gt-WAYS : goal.returns-then-saturating_add-gt-WAYS
+returns-then-saturating_add-gt-WAYS c =
     let w = c.args.self.now.table in
     let z = c.loop-set.set in
     let count : ℕ → ℕ = λ z. live_at w z + get_or c.args.demand.now.added z 0 in

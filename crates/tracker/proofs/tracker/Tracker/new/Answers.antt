@@ -4,5 +4,5 @@ use Rattle.tracker.proofs.tracker.Tracker.new.Goals as goal
 
 pub returns : goal.returns
 returns c =
-    let u = c.in-ok-table.ensures in
-    empty _ (empty_table c.in-ok-table.table u.locks u.counts) u.counts refl
+    let u = c.in_ok-table.ensures in
+    empty _ (empty_table c.in_ok-table.table u.locks u.counts) u.counts refl

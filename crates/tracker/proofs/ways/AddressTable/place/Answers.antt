@@ -1,4 +1,4 @@
-use Rattle.tracker.proofs.Tables.{free_placed, found_placed}
+use Rattle.tracker.proofs.Tables.{free_placed}
 use Rattle.tracker.proofs.ways.AddressTable.place.Goals as goal
 
 pub returns-in-Some-vacancy : goal.returns-in-Some-vacancy
