@@ -84,7 +84,7 @@ fn submission(words: &mut SplitWhitespace<'_>, list: &mut Vec<Access>) -> anyhow
         let direction = match word {
             "in" => Direction::In,
             "out" => Direction::Out,
-            "inout" => Direction::Inout,
+            "inout" => Direction::InOut,
             _ => break,
         };
         let address = words.next().context("an address is missing")?;

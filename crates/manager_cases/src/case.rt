@@ -42,7 +42,10 @@ pub fn run_case(
     let mut plains = Vec::new(heap);
     let mut answers = Vec::new(heap);
     let mut only_plain = true;
-    while let Some(request) = next_request(words, &mut list)? {
+    for _ in 0..u64::MAX {
+        let Some(request) = next_request(words, &mut list)? else {
+            break;
+        };
         if let Request::Plain(plain) = request {
             let call = call_of(plain, list.as_slice())?;
             let answer = perform(&mut manager, &mut host, &call);
