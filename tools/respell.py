@@ -15,10 +15,13 @@ import sys
 WORD = re.compile(r"(?<![\w·'-])[A-Za-z_][A-Za-z0-9_]*(?:-[A-Za-z0-9_]+)*'*(?![\w'])(?!-[\w])")
 TOP = re.compile(r"^((?:private |abbrev |unfoldable |instance |pub |opaque )*)(record |data )?((?:pub )?)([A-Za-z_][^\s:(){}·]*)(?:\s[({].*?)?\s*:(?:\s|$)")
 MEMBER = re.compile(r"^\s+(?:pub )?([A-Za-z_][^\s:(){}·]*)\s*:\s(?!.*=)")
+STATED = re.compile(r"^\s+pub ([A-Za-z_][^\s:(){}·]*)\s*:\s")
 MADE = re.compile(r"^(returns|loop|invariant|aborts|call|preserved|measure|goal|while|for)\b-?")
 # Rattle makes these from names in a source, or the library has them
 # a record of a refused feed and an enum of a Rust source, which camel case would make one
 APART = {"Feed-fault": "FeedFailure"}
+# names that the kit's script has left half turned, or that have no dash or an operator in them
+LEFT = {"Laid_out": "LaidOut", "codedState": "coded_state", "count-readies": "count_readies"}
 NOT_OURS = {"get_or-set_same", "get_or-set_other", "get_or-take", "getD-any"}
 
 
@@ -53,7 +56,7 @@ def own_names(root):
                     types.add(name)
                 names.setdefault(name, p)
             elif not answers:
-                m = MEMBER.match(line)
+                m = STATED.match(line) or MEMBER.match(line)
                 if m:
                     names.setdefault(m.group(1), p)
                     if in_type:
@@ -82,7 +85,11 @@ def respelled(name, types):
 def main():
     root = os.getcwd()
     names, types, members = own_names(root)
-    new = {n: respelled(n, types) for n in names}
+    # a name that ends in an operator, as bares-++, keeps the dash before it
+    new = {n: respelled(n, types) for n in names if WORD.fullmatch(n)}
+    new.update(LEFT)
+    new = {n: m for n, m in new.items() if n != m}
+    names.update((n, root) for n in LEFT)
     back = {}
     for n, m in new.items():
         back.setdefault(m, []).append(n)

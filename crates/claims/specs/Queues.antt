@@ -2,10 +2,10 @@
 --
 --   bare, bares                an entry, a roll with nothing but seats and accesses
 --   on, queue                  the claims of one task on an address; those of a whole roll
---   Apart, AllApart           no task has an address twice
+--   Apart, AllApart            no task has an address twice
 --   map_of                     what a roll makes of each address
 --   hit_count, stuck_of        how many accesses conflict with an earlier task; how many claims of a seat wait
---   AbsentSeat                no task of the roll has the seat
+--   AbsentSeat                 no task of the roll has the seat
 use Rattle.std.specs.Prelude.{◌≡◌, ℕ, ◌+◌, false, List, [], ◌∷◌, ◌++◌, ◌==◌}
 use Rattle.task.specs.declared.Access.{Access}
 use Rattle.task.specs.Access.{writes, keep}

@@ -3,7 +3,7 @@
 
 pub mod seat_values;
 
-ghost use Rattle.std.specs.Prelude.{◌≡◌, ◌&&◌, ltb, if◌then◌else◌, Some, None, nat_lt};
+ghost use Rattle.std.specs.Prelude.{◌≡◌, ◌&&◌, if◌then◌else◌, Some, None, nat_lt};
 ghost use Rattle.host.specs.Meaning.{Fixed, Values, brought, stored, seats, positions};
 
 pub use seat_values::SeatValues;
@@ -50,5 +50,5 @@ pub trait ReadBack: Host {
 
     // The value held aside for a seat and a position of the table.
     fn aside_at(&self, seat: u16, position: u8) -> Option<Self::Value>
-        ensures { result ≡ (if ltb seat seats && nat_lt position positions then Some ((Self.Host.values self.now).aside seat position) else None) };
+        ensures { result ≡ (if nat_lt seat seats && nat_lt position positions then Some ((Self.Host.values self.now).aside seat position) else None) };
 }

@@ -10,7 +10,7 @@ use Rattle.seat.specs.declared.Standing.{Standing}
 use Rattle.seat.specs.declared.Standing.TheVariants.{Free, Waiting, Ready, Running}
 use Rattle.seat.specs.declared.Phase.TheVariants.{Bring, Put, Done}
 use Rattle.seat.specs.Phases.{standing_of, sound_standing}
-use Rattle.seat.proofs.Laws.{bring-steps, put-steps}
+use Rattle.seat.proofs.Laws.{bring_steps, put_steps}
 use Rattle.manager.specs.declared.inner.Inner.{Inner}
 use Rattle.manager.specs.Model.{seat_at, roll_of, state_of}
 use Rattle.manager.specs.Answers.{no_values}
@@ -46,8 +46,8 @@ module _ (i : Inner) (seated : Seated i) (s : ℕ) where
   agrees Free e = ap (finished_at here s) (roll_none i seated s (ap is_free e))
   agrees Waiting e = there Waiting e refl
   agrees Ready e = there Ready e refl
-  agrees (Running (Bring a n)) e = there (Running (Bring a n)) e refl ∙ ap (λ (ss : List Step). finished here s (running ss)) (bring-steps accesses a n (phase_sound (Running (Bring a n)) e))
-  agrees (Running (Put a n)) e = there (Running (Put a n)) e refl ∙ ap (λ (ss : List Step). finished here s (running ss)) (put-steps accesses a n (phase_sound (Running (Put a n)) e))
+  agrees (Running (Bring a n)) e = there (Running (Bring a n)) e refl ∙ ap (λ (ss : List Step). finished here s (running ss)) (bring_steps accesses a n (phase_sound (Running (Bring a n)) e))
+  agrees (Running (Put a n)) e = there (Running (Put a n)) e refl ∙ ap (λ (ss : List Step). finished here s (running ss)) (put_steps accesses a n (phase_sound (Running (Put a n)) e))
   agrees (Running Done) e = (refl, there (Running Done) e refl)
 
   -- so what the check of the seat answers agrees with the roll

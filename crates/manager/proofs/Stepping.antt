@@ -12,7 +12,7 @@ use Rattle.seat.specs.declared.Event.TheVariants.{Stepped}
 use Rattle.seat.specs.declared.NextStep.{NextStep}
 use Rattle.seat.specs.declared.NextStep.TheVariants.{Bring as BringNext, Put as PutNext}
 use Rattle.seat.specs.Phases.{address_at, steps_in, sound_standing, after_bring, after_put, moved, or_else, next_of, standing_of}
-use Rattle.seat.proofs.Laws.{bring-steps, put-steps, put_brought}
+use Rattle.seat.proofs.Laws.{bring_steps, put_steps, put_brought}
 
 -- a seat's standing on the roll has this step next, and with the step done these are left
 pub record Next (xs : List Access) (st : Standing) (σ : Step) : Type 0 where
@@ -36,7 +36,7 @@ bring_next xs (Running (Bring i n)) a d p h e =
     let same : bring (record { number = i; address = address_at xs i }) n ≡ bring (record { number = a; address = d }) p = cc in
     record {
       rest = steps_in xs (after_bring xs i n);
-      before = ap running (bring-steps xs i n h ∙ ap (λ (σ : Step). σ ∷ steps_in xs (after_bring xs i n)) same);
+      before = ap running (bring_steps xs i n h ∙ ap (λ (σ : Step). σ ∷ steps_in xs (after_bring xs i n)) same);
       after = refl;
     }
 bring_next xs (Running (Put i n)) a d p h e = other_step a d p i (address_at xs i) n e
@@ -53,7 +53,7 @@ put_next xs (Running (Put i n)) a d p h e =
     let count : p ≡ n = cc in (
       record {
         rest = steps_in xs (after_put xs i n);
-        before = ap running (put-steps xs i n h ∙ ap (λ (σ : Step). σ ∷ steps_in xs (after_put xs i n)) same);
+        before = ap running (put_steps xs i n h ∙ ap (λ (σ : Step). σ ∷ steps_in xs (after_put xs i n)) same);
         after = refl;
       },
       count ∙ put_brought xs i n h,

@@ -42,6 +42,7 @@ pub fn run_case(
     let mut plains = Vec::new(heap);
     let mut answers = Vec::new(heap);
     let mut only_plain = true;
+    // A case has fewer words than that: the count says that the loop ends.
     for _ in 0..u64::MAX {
         let Some(request) = next_request(words, &mut list)? else {
             break;

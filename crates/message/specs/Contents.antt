@@ -41,9 +41,9 @@ BodyRead body says w bytes place (Ok x) after = (body (drop place bytes) ≡ Ok 
 BodyRead body says w bytes place (Err fault) after = body (drop place bytes) ≡ Err fault
 
 -- a message that was read is laid out in just the bytes from the place to that behind it
-abbrev pub Laid_out : List ℕ → ℕ → Result Message StreamFault → ℕ → Type 0
-Laid_out bytes place (Ok message) after = drop place bytes ≡ layout (contents_of message) ++ drop after bytes
-Laid_out bytes place (Err fault) after = Unit {0}
+abbrev pub LaidOut : List ℕ → ℕ → Result Message StreamFault → ℕ → Type 0
+LaidOut bytes place (Ok message) after = drop place bytes ≡ layout (contents_of message) ++ drop after bytes
+LaidOut bytes place (Err fault) after = Unit {0}
 
 -- what a submitted task says; and how many bytes its submission has behind the first two
 abbrev pub submitted : Task → Contents

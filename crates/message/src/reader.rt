@@ -1,7 +1,7 @@
 // A reader: a run of bytes and a place in it.
 ghost use Rattle.std.specs.Prelude.{◌≡◌, ℕ, ◌+◌, ◌<◌, ◌≤◌, [], ◌∷◌, length, Err};
 ghost use Rattle.layout.specs.Reading.{submission, read};
-ghost use Rattle.message.specs.Contents.{contents_of, submitted, submission_width, message_width, Answered, BodyRead, HeaderRead, Laid_out};
+ghost use Rattle.message.specs.Contents.{contents_of, submitted, submission_width, message_width, Answered, BodyRead, HeaderRead, LaidOut};
 
 use crate::guard::PlaceGuard;
 use crate::{Message, Place, fields, lists};
@@ -65,7 +65,7 @@ pub fn read_message(bytes: &[u8], place: &mut Place) -> Result<Message, StreamFa
 // The message at the place, which moves on with each field.
 fn message(bytes: &[u8], place: &mut Place) -> Result<Message, StreamFault>
     requires { place.old.at < length bytes.now }
-    ensures laid { Laid_out bytes.now place.old.at result place.new.at }
+    ensures laid { LaidOut bytes.now place.old.at result place.new.at }
     ensures read { BodyRead (read place.old.at) contents_of message_width bytes.now place.old.at result place.new.at }
 {
     let start = place.at;

@@ -3,7 +3,7 @@
 --
 --   Open                   a task that has begun, with the steps that are left to it
 --   Reached                what can be reached by such orders
---   AnyOrderIsSerial    whatever is reached agrees with the one-at-a-time run
+--   AnyOrderIsSerial       whatever is reached agrees with the one-at-a-time run
 use Rattle.std.specs.Prelude.{◌≡◌, ℕ, zero, suc, ◌<◌, ◌≤◌, false, List, [], ◌∷◌, ◌++◌, length, Some, None, Option, ◌≢◌}
 use Rattle.task.specs.Access.{Numbered, conflict}
 use Rattle.task.specs.Limits.{max_accesses}

@@ -9,7 +9,7 @@ use Rattle.order.proofs.Opens.{all_front, all_back, all_both}
 use Rattle.roll.specs.Roll.{Standing, Entry, Roll, stand, change, without}
 use Rattle.roll.specs.Tables.{tally}
 use Rattle.roll.proofs.Split.{Elsewhere, Split, count, count-++, once_itself, seats_of, seats-++, count_none}
-use Rattle.roll.proofs.Keeps.{if_ready, readies, count-readies-++}
+use Rattle.roll.proofs.Keeps.{if_ready, readies, count_readies-++}
 use Rattle.roll.proofs.Owed.{due, Paid}
 
 module _ {s : ℕ} {k : Entry} {roll : Roll} (r : Split s k roll) where
@@ -40,16 +40,16 @@ module _ {s : ℕ} {k : Entry} {roll : Roll} (r : Split s k roll) where
   -- how often a seat is a ready entry's, likewise
   pub readies_split : (x : ℕ) → count x (readies roll) ≡ count x (readies r.pre) + (count x (if_ready k.standing k.job.seat) + count x (readies r.post))
   readies_split x =
-      ap (λ (es : Roll). count x (readies es)) r.is ∙ count-readies-++ x r.pre (k ∷ r.post)
+      ap (λ (es : Roll). count x (readies es)) r.is ∙ count_readies-++ x r.pre (k ∷ r.post)
       ∙ ap (λ (n : ℕ). count x (readies r.pre) + n) (count-++ x (if_ready k.standing k.job.seat) (readies r.post))
 
   pub readies_changed : (st : Standing) (x : ℕ) → count x (readies (change s st roll)) ≡ count x (readies r.pre) + (count x (if_ready st k.job.seat) + count x (readies r.post))
   readies_changed st x =
-      ap (λ (es : Roll). count x (readies es)) (r.changed st) ∙ count-readies-++ x r.pre (stand st k ∷ r.post)
+      ap (λ (es : Roll). count x (readies es)) (r.changed st) ∙ count_readies-++ x r.pre (stand st k ∷ r.post)
       ∙ ap (λ (n : ℕ). count x (readies r.pre) + n) (count-++ x (if_ready st k.job.seat) (readies r.post))
 
   pub readies_removed : (x : ℕ) → count x (readies (without s roll)) ≡ count x (readies r.pre) + count x (readies r.post)
-  readies_removed x = ap (λ (es : Roll). count x (readies es)) r.removed ∙ count-readies-++ x r.pre r.post
+  readies_removed x = ap (λ (es : Roll). count x (readies es)) r.removed ∙ count_readies-++ x r.pre r.post
 
   -- how many entries there are, likewise
   length_split : length roll ≡ length r.pre + suc (length r.post)

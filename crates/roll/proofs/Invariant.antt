@@ -18,7 +18,7 @@ use Rattle.roll.specs.Tables.{tally, lasting_fault}
 use Rattle.roll.specs.Calls.{Setting, submit, take, step, finish, succeeded, accepted, begun, said, stepped, finished}
 use Rattle.roll.specs.History.{History, read_more, noted}
 use Rattle.roll.proofs.Split.{Elsewhere, Split, split, count, count-++, once_itself, seats_of, seats-++, count_none}
-use Rattle.roll.proofs.Keeps.{steps_left, waits, Rightly, clear_before, rightly_change, rightly_join, Safely, safely_without, rightly_wake, all_wake, seats_wake, length_wake, if_ready, readies, count-readies-++, count_wake}
+use Rattle.roll.proofs.Keeps.{steps_left, waits, Rightly, clear_before, rightly_change, rightly_join, Safely, safely_without, rightly_wake, all_wake, seats_wake, length_wake, if_ready, readies, count_readies-++, count_wake}
 use Rattle.roll.proofs.Owed.{due, length_steps, Paid, paid_wake}
 use Rattle.roll.proofs.Fits.{Fitting, fitting}
 use Rattle.roll.proofs.Changed.{all_found, all_without, seats_split, seats_changed, seats_removed, readies_split, readies_changed, readies_removed, length_changed, length_removed, all_changed, paid_changed}
@@ -171,7 +171,7 @@ module _ {V : Type 0} (m : Setting V) (w0 : Values V) (h : History V) (i : Kept 
             );
         agrees = λ x p lt. agrees_at (eqb x s) [] (h.got x) vs (h.reads x) (λ e q z. absurd (omega (arith, z))) (i.agrees x) p lt;
         apart = λ x. omega (arith, i.apart x, ap (count x) e, ap (count x) (seats-++ here (n ∷ [])), count-++ x (seats_of here) (s ∷ []));
-        lined = λ x. omega (arith, i.lined x, first_lined x s h.state.ready_line b, count-readies-++ x here (n ∷ []), count-++ x (if_ready (first_standing b) s) []);
+        lined = λ x. omega (arith, i.lined x, first_lined x s h.state.ready_line b, count_readies-++ x here (n ∷ []), count-++ x (if_ready (first_standing b) s) []);
         paid = All-append (Paid spent) here (n ∷ [])
             (all_both (Elsewhere s) (Paid h.spent) (Paid spent) (λ d ne p. omega (arith, p, update_other h.spent s 0 d.job.seat ne)) here elsewhere i.paid)
             (omega (arith, first_due xs b, length_steps xs, update_here h.spent s 0), tt);

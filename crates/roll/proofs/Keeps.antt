@@ -138,11 +138,11 @@ readies [] = []
 readies (e ∷ es) = if_ready e.standing e.job.seat ++ readies es
 
 -- in two parts of a roll
-pub count-readies-++ : (s : ℕ) (xs ys : Roll) → count s (readies (xs ++ ys)) ≡ count s (readies xs) + count s (readies ys)
-count-readies-++ s [] ys = omega arith
-count-readies-++ s (x ∷ xs) ys =
+pub count_readies-++ : (s : ℕ) (xs ys : Roll) → count s (readies (xs ++ ys)) ≡ count s (readies xs) + count s (readies ys)
+count_readies-++ s [] ys = omega arith
+count_readies-++ s (x ∷ xs) ys =
     let m : List ℕ = if_ready x.standing x.job.seat in
-    omega (arith, count-++ s m (readies (xs ++ ys)), count-++ s m (readies xs), count-readies-++ s xs ys)
+    omega (arith, count-++ s m (readies (xs ++ ys)), count-++ s m (readies xs), count_readies-++ s xs ys)
 
 -- one task: ready before, or woken
 count_rouse : (s : ℕ) (b : Bool) (st : Standing) (x : ℕ) → count s (if_ready (rouse b st) x) ≡ count s (if_ready st x) + count s (roused b st x)

@@ -4,7 +4,7 @@
 --   live, needs, used    the live addresses, the versions that a submission needs, those in use
 --   fresh, occupied      the new addresses of a set, and the live ones
 --   submit_fault         the first fault of a submission, in the order of the checks
-use Rattle.std.specs.Prelude.{ℕ, ◌+◌, ◌-◌, ◌%◌, min, Bool, true, false, cond, not, ◌&&◌, ◌||◌, ltb, List, [], ◌∷◌, length, is_some, Some, None, Option, ◌==◌, nat_lt}
+use Rattle.std.specs.Prelude.{ℕ, ◌+◌, ◌-◌, ◌%◌, min, Bool, true, false, cond, not, ◌&&◌, ◌||◌, List, [], ◌∷◌, length, is_some, Some, None, Option, ◌==◌, nat_lt}
 use Rattle.fault.specs.declared.TableFault.{TableFault}
 use Rattle.fault.specs.declared.TableFault.TheVariants.{NeverFits, NoFreeSeat, TooFewVersions, SetFull}
 use Rattle.fault.specs.declared.ManagerFault.{ManagerFault}
@@ -68,7 +68,7 @@ occupied z set earlier (e ∷ es) = fresh z earlier set e.job.accesses + occupie
 
 -- the lowest set for which the count is above the ways
 abbrev pub crowded : (ℕ → ℕ) → Option ℕ
-crowded count = first_from (λ set. ltb ways (count set)) 0 sets
+crowded count = first_from (λ set. nat_lt ways (count set)) 0 sets
 
 -- a task that fits into no such tables, even empty ones: there is no seat, or it has more accesses than there are versions, or over 8
 -- addresses in one set

@@ -10,7 +10,7 @@ use Rattle.seat.specs.Phases.{reads_at, writes_at, address_at, steps_in, sound_p
 use Rattle.seat.specs.declared.Standing.{Standing}
 use Rattle.seat.specs.declared.Standing.TheVariants.{Running}
 use Rattle.seat.specs.Laws.{PhasesAreTheSteps}
-use Rattle.seat.proofs.Next.{Arrives, arrives, count_low, passes_low, numbered-here, count_here}
+use Rattle.seat.proofs.Next.{Arrives, arrives, count_low, passes_low, numbered_here, count_here}
 
 module _ (xs : List Access) where
   -- the steps of the next put phase are the puts from number k on
@@ -62,9 +62,9 @@ module _ (xs : List Access) where
   first_sound = bring_sound_by 0 0 _ refl (arrives reads 0 xs)
 
   -- a bring phase has its bring, and then the steps of the phase after it
-  pub bring-steps : (i n : ℕ) → sound_phase xs (Bring i n) ≡ true → steps_in xs (Bring i n) ≡ bring (record { number = i; address = address_at xs i }) n ∷ steps_in xs (after_bring xs i n)
-  bring-steps i n h =
-      ap (λ (l : List Numbered). brings n l ++ puts (writers xs)) (numbered-here reads xs i (bring_is i n h).0)
+  pub bring_steps : (i n : ℕ) → sound_phase xs (Bring i n) ≡ true → steps_in xs (Bring i n) ≡ bring (record { number = i; address = address_at xs i }) n ∷ steps_in xs (after_bring xs i n)
+  bring_steps i n h =
+      ap (λ (l : List Numbered). brings n l ++ puts (writers xs)) (numbered_here reads xs i (bring_is i n h).0)
       ∙ ap (λ (l : List Step). bring (record { number = i; address = address_at xs i }) n ∷ l) (sym (bring_steps_by (suc i) (suc n) _ (arrives reads (suc i) xs)))
 
   -- which is sound
@@ -74,9 +74,9 @@ module _ (xs : List Access) where
       bring_sound_by (suc i) (suc n) _ (ap suc q.1 ∙ sym (count_here reads xs i q.0)) (arrives reads (suc i) xs)
 
   -- a put phase has its put, and then the steps of the phase after it
-  pub put-steps : (i n : ℕ) → sound_phase xs (Put i n) ≡ true → steps_in xs (Put i n) ≡ put (record { number = i; address = address_at xs i }) ∷ steps_in xs (after_put xs i n)
-  put-steps i n h =
-      ap puts (numbered-here writes xs i (put_is i n h).0)
+  pub put_steps : (i n : ℕ) → sound_phase xs (Put i n) ≡ true → steps_in xs (Put i n) ≡ put (record { number = i; address = address_at xs i }) ∷ steps_in xs (after_put xs i n)
+  put_steps i n h =
+      ap puts (numbered_here writes xs i (put_is i n h).0)
       ∙ ap (λ (l : List Step). put (record { number = i; address = address_at xs i }) ∷ l) (sym (put_steps_by (suc i) n _ (arrives writes (suc i) xs)))
 
   -- all values have been brought in it
@@ -89,8 +89,8 @@ module _ (xs : List Access) where
 
   -- only a task that is done has no step left
   pub no_steps : (p : Phase) → sound_phase xs p ≡ true → steps_in xs p ≡ [] → p ≡ Done
-  no_steps (Bring i n) h e = let s = bring-steps i n h in let z : ◌≡◌ {A = ℕ} 0 1 = cc in absurd (omega arith)
-  no_steps (Put i n) h e = let s = put-steps i n h in let z : ◌≡◌ {A = ℕ} 0 1 = cc in absurd (omega arith)
+  no_steps (Bring i n) h e = let s = bring_steps i n h in let z : ◌≡◌ {A = ℕ} 0 1 = cc in absurd (omega arith)
+  no_steps (Put i n) h e = let s = put_steps i n h in let z : ◌≡◌ {A = ℕ} 0 1 = cc in absurd (omega arith)
   no_steps Done h e = refl
 
   -- all of these together
@@ -98,9 +98,9 @@ module _ (xs : List Access) where
   phases_are_the_steps = record {
     first_steps = first_steps;
     first_sound = first_sound;
-    bring-steps = bring-steps;
+    bring_steps = bring_steps;
     bring_sound = bring_sound;
-    put-steps = put-steps;
+    put_steps = put_steps;
     put_brought = put_brought;
     put_sound = put_sound;
     no_steps = no_steps;

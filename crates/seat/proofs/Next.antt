@@ -95,8 +95,8 @@ module _ (p : Access → Bool) (xs : List Access) (i : ℕ) (passes : first_pass
   passes_here = ap (first_passes p) (sym (drop-cons xs i blank (passes_low p xs i passes))) ∙ passes
 
   -- it is the first of those from its number on that pass
-  pub numbered-here : numbered p i (drop i xs) ≡ record { number = i; address = (get_or xs i blank).address } ∷ numbered p (suc i) (drop (suc i) xs)
-  numbered-here = rw (drop-cons xs i blank (passes_low p xs i passes), passes_here)
+  pub numbered_here : numbered p i (drop i xs) ≡ record { number = i; address = (get_or xs i blank).address } ∷ numbered p (suc i) (drop (suc i) xs)
+  numbered_here = rw (drop-cons xs i blank (passes_low p xs i passes), passes_here)
 
   -- one more access passes before the number after it
   pub count_here : length (numbered p 0 (take (suc i) xs)) ≡ suc (length (numbered p 0 (take i xs)))

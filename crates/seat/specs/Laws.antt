@@ -13,10 +13,10 @@ pub record PhasesAreTheSteps (xs : List Access) : Type 0 where
   pub first_steps : steps_in xs (first_phase xs) ≡ steps xs
   pub first_sound : sound_phase xs (first_phase xs) ≡ true
   -- a bring phase has the bring of its access to the next position, and then the steps of the phase after it
-  pub bring-steps : (i n : ℕ) → sound_phase xs (Bring i n) ≡ true → steps_in xs (Bring i n) ≡ bring (record { number = i; address = address_at xs i }) n ∷ steps_in xs (after_bring xs i n)
+  pub bring_steps : (i n : ℕ) → sound_phase xs (Bring i n) ≡ true → steps_in xs (Bring i n) ≡ bring (record { number = i; address = address_at xs i }) n ∷ steps_in xs (after_bring xs i n)
   pub bring_sound : (i n : ℕ) → sound_phase xs (Bring i n) ≡ true → sound_phase xs (after_bring xs i n) ≡ true
   -- a put phase has the put of its access, and then the steps of the phase after it, and all values have been brought
-  pub put-steps : (i n : ℕ) → sound_phase xs (Put i n) ≡ true → steps_in xs (Put i n) ≡ put (record { number = i; address = address_at xs i }) ∷ steps_in xs (after_put xs i n)
+  pub put_steps : (i n : ℕ) → sound_phase xs (Put i n) ≡ true → steps_in xs (Put i n) ≡ put (record { number = i; address = address_at xs i }) ∷ steps_in xs (after_put xs i n)
   pub put_brought : (i n : ℕ) → sound_phase xs (Put i n) ≡ true → n ≡ length (readers xs)
   pub put_sound : (i n : ℕ) → sound_phase xs (Put i n) ≡ true → sound_phase xs (after_put xs i n) ≡ true
   -- only a task that is done has no step left

@@ -14,18 +14,18 @@ use Rattle.tracker.specs.Table.{Table}
 use Rattle.tracker.specs.Tracked.{Tracked}
 
 -- what a queue comes to, by its parts
-codedState : Coded State
-codedState = coded_via (coded× coded_ℕ (coded× coded_bool (coded_list the_row.coded))) (λ st. (st.holders, (st.writing, st.waiting)))
+coded_state : Coded State
+coded_state = coded_via (coded× coded_ℕ (coded× coded_bool (coded_list the_row.coded))) (λ st. (st.holders, (st.writing, st.waiting)))
     (λ x y e. λ i. record { holders = (e i).0; writing = (e i).1.0; waiting = (e i).1.1 })
 
 pub table_prop : (w : AddressTable) (M : ℕ → State) → IsProp (Table w M)
 table_prop w M p q = λ k. record {
-  here = λ i lt live. ≡_prop codedState _ _ (p.here i lt live) (q.here i lt live) k;
+  here = λ i lt live. ≡_prop coded_state _ _ (p.here i lt live) (q.here i lt live) k;
   there = λ a some none. ⊥_prop (p.there a some none) (q.there a some none) k;
   apart = λ i j li lj vi vj e. ≡_prop coded_ℕ _ _ (p.apart i j li lj vi vj e) (q.apart i j li lj vi vj e) k;
   home = λ i lt live. ≡_prop coded_ℕ _ _ (p.home i lt live) (q.home i lt live) k;
-  idle = λ i lt none. ≡_prop codedState _ _ (p.idle i lt none) (q.idle i lt none) k;
-  absent = λ a none. ≡_prop codedState _ _ (p.absent a none) (q.absent a none) k;
+  idle = λ i lt none. ≡_prop coded_state _ _ (p.idle i lt none) (q.idle i lt none) k;
+  absent = λ a none. ≡_prop coded_state _ _ (p.absent a none) (q.absent a none) k;
   counted = λ z lt. ≡_prop coded_ℕ _ _ (p.counted z lt) (q.counted z lt) k;
 }
 
