@@ -17,11 +17,11 @@ TOP = re.compile(r"^((?:private |abbrev |unfoldable |instance |pub |opaque )*)(r
 MEMBER = re.compile(r"^\s+(?:pub )?([A-Za-z_][^\s:(){}·]*)\s*:\s(?!.*=)")
 STATED = re.compile(r"^\s+pub ([A-Za-z_][^\s:(){}·]*)\s*:\s")
 MADE = re.compile(r"^(returns|loop|invariant|aborts|call|preserved|measure|goal|while|for)\b-?")
-# Rattle makes these from names in a source, or the library has them
 # a record of a refused feed and an enum of a Rust source, which camel case would make one
 APART = {"Feed-fault": "FeedFailure"}
 # names that the kit's script has left half turned, or that have no dash or an operator in them
 LEFT = {"Laid_out": "LaidOut", "codedState": "coded_state", "count-readies": "count_readies"}
+# Rattle makes these from names in a source, or the library has them
 NOT_OURS = {"get_or-set_same", "get_or-set_other", "get_or-take", "getD-any"}
 
 
