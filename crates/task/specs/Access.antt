@@ -5,6 +5,7 @@
 --   conflict             two tasks conflict, by their lists of accesses
 --   readers, writers     the accesses of a task that read, and those that write, each with its number
 use Rattle.std.specs.Prelude.{ℕ, suc, Bool, true, false, ◌&&◌, ◌||◌, List, [], ◌∷◌, ◌==◌}
+use Rattle.std.specs.List.{list_any}
 use Rattle.task.specs.declared.Access.{Access}
 use Rattle.task.specs.declared.Direction.{Direction}
 use Rattle.task.specs.declared.Direction.TheVariants.{In, Out, InOut}
@@ -34,8 +35,7 @@ conflicting x y = x.address == y.address && (writes x || writes y)
 
 -- does the test hold of some access of the list?
 abbrev pub some_access : (Access → Bool) → List Access → Bool
-some_access p [] = false
-some_access p (x ∷ xs) = p x || some_access p xs
+some_access p xs = list_any p xs
 
 -- two tasks conflict when an access of one conflicts with an access of the other
 abbrev pub conflict : List Access → List Access → Bool

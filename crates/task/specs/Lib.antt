@@ -1,3 +1,4 @@
 pub mod Limits
 pub mod Access
+pub mod Codes
 pub mod Task

@@ -5,7 +5,10 @@ mod tasks;
 
 ghost use Rattle.std.specs.Prelude.{◌≡◌};
 ghost use Rattle.task.specs.Access.{reading, writing, reads, writes, conflicting};
+ghost use Rattle.task.specs.Codes.{direction_of};
 
+use std::error::Error;
+use std::fmt;
 pub use tasks::{MAX_ACCESSES, Task};
 
 // What an access does with its address.
@@ -34,6 +37,37 @@ impl Direction {
         match self {
             Direction::In => false,
             Direction::Out | Direction::InOut => true,
+        }
+    }
+}
+
+// A code that no direction has.
+#[derive(Clone, Copy, PartialEq, Eq, Debug)]
+pub struct UnknownDirection {
+    pub found: u8,
+}
+
+impl fmt::Display for UnknownDirection {
+    fn fmt<W: fmt::Write>(&self, f: &mut fmt::Formatter<W>) -> fmt::Result {
+        let found = self.found;
+        write!(f, "direction {found} is not known: 1 is in, 2 out, 3 inout")
+    }
+}
+
+impl Error for UnknownDirection {}
+
+// The direction that a byte stands for.
+impl TryFrom<u8> for Direction {
+    type Error = UnknownDirection;
+
+    ghost try_from_gives = { λ code r. r ≡ direction_of code };
+
+    fn try_from(code: u8) -> Result<Direction, UnknownDirection> {
+        match code {
+            1 => Ok(Direction::In),
+            2 => Ok(Direction::Out),
+            3 => Ok(Direction::InOut),
+            found => Err(UnknownDirection { found }),
         }
     }
 }

@@ -11,6 +11,7 @@ pub const MAX_ACCESSES: usize = 15;
 
 // A task: a name, a kind of work, and up to 15 accesses, numbered from 0 in the order given.
 // The record has room for all of them, so that no call has to find memory.
+// Kept: a task is copied from call to call without asking for memory, and the vector of fixed capacity in `arrayvec` is not Copy.
 #[derive(Clone, Copy)]
 pub struct Task {
     pub name: u32,

@@ -68,30 +68,16 @@ impl Task {
     pub fn conflicts(&self, other: &Task) -> bool
         ensures { result ≡ conflict (accesses_of self.now) (accesses_of other.now) }
     {
-        some_conflict(self.accesses(), other.accesses())
+        let others = other.accesses();
+        self.accesses()
+            .iter()
+            .any(|access| conflicts_with_any(access, others))
     }
-}
-
-// Whether one of the accesses conflicts with one of the others.
-fn some_conflict(accesses: &[Access], others: &[Access]) -> bool
-    ensures { result ≡ conflict accesses.now others.now }
-{
-    for access in accesses {
-        if conflicts_with_any(access, others) {
-            return true;
-        }
-    }
-    false
 }
 
 // Whether the access conflicts with one of the others.
 fn conflicts_with_any(access: &Access, others: &[Access]) -> bool
     ensures { result ≡ some_access (conflicting access.now) others.now }
 {
-    for other in others {
-        if access.conflicts(other) {
-            return true;
-        }
-    }
-    false
+    others.iter().any(|other| access.conflicts(other))
 }
