@@ -1,2 +1,2 @@
-mod First
+mod Found
 pub mod Sound

@@ -1,5 +1,6 @@
 -- What a check that finds no fault says of a task. Assumes nothing.
-use Rattle.std.proofs.Common.{◌≡◌, ℕ, zero, suc, ◌+◌, ◌<◌, Bool, true, false, cond, not, ltb, List, length, Some, None, Ok, Err, Option, Result, sym, refl, ap, ◌∙◌, le_of_suc-le-suc, not-suc-le-zero, arith}
+use Rattle.std.proofs.Common.{◌≡◌, ℕ, zero, suc, ◌+◌, ◌<◌, Bool, true, false, cond, not, ltb, List, length, Some, None, Ok, Err, Option, Result, refl, ap, ◌∙◌, le_of_suc-le-suc, not-suc-le-zero, arith}
+use Rattle.std.proofs.lemmas.Bool.{not-false}
 use Rattle.fault.specs.declared.ManagerFault.{ManagerFault}
 use Rattle.fault.specs.declared.ManagerFault.TheVariants.{TooManyAccesses, RepeatedAddress, NotHeld}
 use Rattle.task.specs.declared.Access.{Access}
@@ -8,7 +9,7 @@ use Rattle.admission.specs.Admission.{first_from, address_at, repeated, not_held
 
 -- a test that holds at none of some numbers fails at the first of them, and holds at none of the others
 not_here : (b : Bool) (i : ℕ) (r : Option ℕ) → cond b (Some i) r ≡ None → (b ≡ false) × (r ≡ None)
-not_here true i r e = let z : ◌≡◌ {A = ℕ} 0 1 = cc in absurd (omega arith)
+not_here true i r e = absurd cc
 not_here false i r e = (refl, e)
 
 -- so it fails at each of them
@@ -22,24 +23,20 @@ nowhere p (suc n) i e (suc k) lt =
 -- a check that passes has no fault
 pub passes_sound : (f : Option ManagerFault) → ◌≡◌ {A = Result (Unit {0}) ManagerFault} (Ok tt) (unless f) → f ≡ None
 passes_sound None e = refl
-passes_sound (Some fault) e = let z : ◌≡◌ {A = ℕ} 0 1 = cc in absurd (omega arith)
+passes_sound (Some fault) e = absurd cc
 
 -- and one that fails has this one
 pub fails_at : (f : Option ManagerFault) (fault : ManagerFault) → ◌≡◌ {A = Result (Unit {0}) ManagerFault} (Err fault) (unless f) → f ≡ Some fault
-fails_at None fault e = let z : ◌≡◌ {A = ℕ} 0 1 = cc in absurd (omega arith)
+fails_at None fault e = absurd cc
 fails_at (Some other) fault e = cc
 
 no_first : (b : Bool) (fault : ManagerFault) (next : Option ManagerFault) → cond b (Some fault) next ≡ None → next ≡ None
-no_first true fault next e = let z : ◌≡◌ {A = ℕ} 0 1 = cc in absurd (omega arith)
+no_first true fault next e = absurd cc
 no_first false fault next e = e
 
 no_fault : (r : Option ℕ) (fault : ℕ → ManagerFault) (next : Option ManagerFault) → fault_at r fault next ≡ None → (r ≡ None) × (next ≡ None)
 no_fault None fault next e = (refl, e)
-no_fault (Some i) fault next e = let z : ◌≡◌ {A = ℕ} 0 1 = cc in absurd (omega arith)
-
-not_not : (b : Bool) → not b ≡ false → b ≡ true
-not_not true e = refl
-not_not false e = sym e
+no_fault (Some i) fault next e = absurd cc
 
 -- a task without a fault has only addresses that are held
 pub all_held : (held : ℕ → Bool) (xs : List Access) → task_fault held xs ≡ None → (k : ℕ) → k < length xs → held (address_at xs k) ≡ true
@@ -48,4 +45,4 @@ all_held held xs e k lt =
     let third = (no_fault (repeated xs) RepeatedAddress _ second).1 in
     let none = (no_fault (not_held held xs) NotHeld None third).0 in
     let z : 0 + k ≡ k = omega arith in
-    not_not (held (address_at xs k)) (rw z at (nowhere (λ i. not (held (address_at xs i))) (length xs) 0 none k lt))
+    not-false (held (address_at xs k)) (rw z at (nowhere (λ i. not (held (address_at xs i))) (length xs) 0 none k lt))

@@ -1,8 +1,7 @@
 // Whether a task can be taken at all, before any table is looked at.
 #![tactic(auto)]
 
-ghost use Rattle.std.specs.Prelude.{◌≡◌, ◌≤◌, length};
-ghost use Rattle.task.specs.Limits.{max_accesses};
+ghost use Rattle.std.specs.Prelude.{◌≡◌, ◌<◌, length, IfSome};
 ghost use Rattle.admission.specs.Admission.{occurs, repeated, not_held, task_fault, unless};
 
 use fault::ManagerFault;
@@ -17,49 +16,39 @@ pub fn check<H: Host>(host: &H, accesses: &[Access]) -> Result<(), ManagerFault>
     if accesses.len() > MAX_ACCESSES {
         return Err(ManagerFault::TooManyAccesses);
     }
-    if let Some(access) = first_repeated(accesses) {
-        return Err(ManagerFault::RepeatedAddress { access });
+    if let Some(at) = first_repeated(accesses) {
+        return Err(ManagerFault::RepeatedAddress { access: at as u8 });
     }
-    if let Some(access) = first_not_held(host, accesses) {
-        return Err(ManagerFault::NotHeld { access });
+    if let Some(at) = first_not_held(host, accesses) {
+        return Err(ManagerFault::NotHeld { access: at as u8 });
     }
     Ok(())
 }
 
 // The first access whose address occurs earlier in the task.
-fn first_repeated(accesses: &[Access]) -> Option<u8>
-    requires { length accesses.now ≤ max_accesses }
-    ensures { result ≡ repeated accesses.now }
+fn first_repeated(accesses: &[Access]) -> Option<usize>
+    ensures first { result ≡ repeated accesses.now }
+    ensures within { IfSome result (λ i. i < length accesses.now) }
 {
-    for i in 0..accesses.len() {
-        if occurs(accesses[i].address, &accesses[0..i]) {
-            return Some(i as u8);
-        }
-    }
-    None
+    accesses
+        .iter()
+        .enumerate()
+        .position(|(i, access)| occurs(access.address, &accesses[..i]))
 }
 
 // Whether the address is that of one of the accesses.
 fn occurs(address: u64, accesses: &[Access]) -> bool
     ensures { result ≡ occurs address accesses.now }
 {
-    for access in accesses {
-        if access.address == address {
-            return true;
-        }
-    }
-    false
+    accesses.iter().any(|access| access.address == address)
 }
 
 // The first access whose address the host does not hold.
-fn first_not_held<H: Host>(host: &H, accesses: &[Access]) -> Option<u8>
-    requires { length accesses.now ≤ max_accesses }
-    ensures { result ≡ not_held (H.Host.fixed host.now).held accesses.now }
+fn first_not_held<H: Host>(host: &H, accesses: &[Access]) -> Option<usize>
+    ensures first { result ≡ not_held (H.Host.fixed host.now).held accesses.now }
+    ensures within { IfSome result (λ i. i < length accesses.now) }
 {
-    for i in 0..accesses.len() {
-        if !host.holds(accesses[i].address) {
-            return Some(i as u8);
-        }
-    }
-    None
+    accesses
+        .iter()
+        .position(|access| !host.holds(access.address))
 }

@@ -1,28 +1,26 @@
-use Rattle.std.proofs.Common.{◌≡◌, ℕ, ◌-◌, Bool, true, false, length, take, sym, arith}
-use Rattle.admission.specs.Admission.{address_at, occurs}
-use Rattle.admission.proofs.First.{first_here, first_later, first_none}
+use Rattle.std.proofs.Common.{◌≡◌, ℕ, ◌+◌, Bool, take, sym, ap, ◌∙◌, rules, arith}
+use borrow.Author.Tests.{tests}
+use Rattle.std.proofs.lemmas.Iterator.{YieldsList-from_slice}
+use Rattle.std.proofs.lemmas.Iterator.Adapters.{position_from-zero}
+use Rattle.std.proofs.lemmas.Iterator.Consumers.{YieldsList-from_enumerate}
+use Rattle.std.proofs.lemmas.Iterator.Search.{position_from_yields_List}
+use Rattle.std.proofs.lemmas.List.FromFn.{length-enumerate_from, get_or-enumerate_from}
+use Rattle.std.specs.List.{enumerate_from}
+use Rattle.task.specs.declared.Access.{Access}
+use Rattle.task.specs.declared.Direction.TheVariants.{In}
+use Rattle.admission.specs.Admission.{first_from, address_at, occurs}
+use Rattle.admission.proofs.Found.{position_from_is_first}
 use Rattle.admission.proofs.first_repeated.Goals as goal
 
-pub returns-then-occurs : goal.returns-then-occurs
-returns-then-occurs c =
+pub returns-clause-first : goal.returns-clause-first
+returns-clause-first c =
     let xs = c.args.accesses.now in
-    let i = c.loop-i.i in
-    let p : ℕ → Bool = λ j. occurs (address_at xs j) (take j xs) in
-    let whole : i - 0 ≡ i = omega arith in
-    let found : occurs (address_at xs i) (take (i - 0) xs) ≡ true = sym c.if-occurs.ensures in
-    first_here p i (length xs) c.loop-i.invariant (omega arith) (rw whole at found)
-
-pub loop-i-preserved : goal.loop-i-preserved
-loop-i-preserved c =
-    let xs = c.args.accesses.now in
-    let i = c.loop-i.i in
-    let p : ℕ → Bool = λ j. occurs (address_at xs j) (take j xs) in
-    let whole : i - 0 ≡ i = omega arith in
-    let missed : occurs (address_at xs i) (take (i - 0) xs) ≡ false = sym c.if-occurs.ensures in
-    first_later p i (length xs) c.loop-i.invariant (omega arith) (rw whole at missed)
-
-pub returns : goal.returns
-returns c =
-    let xs = c.args.accesses.now in
+    let t : ℕ × Access → Bool = λ e. occurs e.1.address (take e.0 xs) in
     let p : ℕ → Bool = λ i. occurs (address_at xs i) (take i xs) in
-    first_none p c.loop-i.i (length xs) c.loop-i.invariant (omega arith)
+    let d : ℕ × Access = (0, record { address = 0; direction = In }) in
+    let n = length-enumerate_from 0 xs in
+    position_from_yields_List t _ _ _ c.position.ensures.ran (YieldsList-from_enumerate (YieldsList-from_slice xs cc) cc) (λ x b q k. search (rules, tests))
+    ∙ position_from-zero t (enumerate_from 0 xs)
+    ∙ position_from_is_first t p d (enumerate_from 0 xs) 0
+    (λ k lt. let z : 0 + k ≡ k = omega arith in ap t (get_or-enumerate_from 0 xs k d (omega (arith, n, lt))) ∙ ap (λ (j : ℕ). occurs (address_at xs j) (take (0 + k) xs)) (sym z))
+    ∙ ap (first_from p 0) n

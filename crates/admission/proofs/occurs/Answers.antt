@@ -1,19 +1,16 @@
-use Rattle.std.proofs.Common.{Bool, eqb, rules}
+use Rattle.std.proofs.Common.{Bool, ◌||◌, eqb, refl, ◌∙◌, rules}
+use borrow.Author.Tests.{tests}
+use Rattle.std.proofs.lemmas.Iterator.{YieldsList-from_slice}
+use Rattle.std.proofs.lemmas.Iterator.Search.{any_from_yields_List}
+use Rattle.std.proofs.lemmas.List.Recursion.{same_from_clauses}
+use Rattle.std.specs.List.{list_any}
+use Rattle.task.specs.Access.{some_access}
 use Rattle.task.specs.declared.Access.{Access}
-use Rattle.task.proofs.Some.{blank, some_here, some_later, some_none}
 use Rattle.admission.proofs.occurs.Goals as goal
-
-pub returns-then-access-address : goal.returns-then-access-address
-returns-then-access-address c =
-    let p : Access → Bool = λ x. eqb x.address c.args.address in
-    some_here p c.args.accesses.now c.loop-access.access-index blank c.loop-access-test.true c.loop-access.invariant (search rules)
-
-pub loop-access-preserved : goal.loop-access-preserved
-loop-access-preserved c =
-    let p : Access → Bool = λ x. eqb x.address c.args.address in
-    some_later p c.args.accesses.now c.loop-access.access-index blank c.loop-access-test.true c.loop-access.invariant (search rules)
 
 pub returns : goal.returns
 returns c =
-    let p : Access → Bool = λ x. eqb x.address c.args.address in
-    some_none p c.args.accesses.now c.loop-access.access-index c.loop-access-test.false c.loop-access.invariant
+    let xs = c.args.accesses.now in
+    let t : Access → Bool = λ x. eqb x.address c.args.address in
+    any_from_yields_List t _ _ _ c.any.ensures.ran (YieldsList-from_slice xs cc) (λ x b q k. search (rules, tests))
+    ∙ same_from_clauses (list_any t) (some_access t) (λ x b. t x || b) refl (λ _ _. refl) (λ _ _. refl) xs
