@@ -3,7 +3,9 @@
 --   seats_in                   the seats among places, without the holes
 --   below, listed              the seats before a place, and all of them
 --   place_of, seat_at          the place of a seat, and the seat at a place
-use Rattle.std.specs.Prelude.{ℕ, Bool, false, cond, ◌&&◌, ◌||◌, List, [], ◌∷◌, take, Some, None, vec_items, Option, ◌==◌, nat_lt, slice_index}
+--   end_of                     the place behind all listed seats
+use Rattle.std.specs.Prelude.{ℕ, Bool, false, cond, ◌||◌, List, [], ◌∷◌, take, None, vec_items, vec_len, Option, ◌==◌, slice_index, slice_index_or}
+use Rattle.std.specs.List.{filter_map}
 use Rattle.acceptance.specs.declared.Acceptance.{Acceptance}
 
 -- is the number in the list?
@@ -16,10 +18,9 @@ abbrev pub removed : ℕ → List ℕ → List ℕ
 removed s [] = []
 removed s (t ∷ ts) = cond (s == t) ts (t ∷ removed s ts)
 
--- the seats among what stands at places: a seat is below 256, and any other number is a hole
-abbrev pub seats_in : List ℕ → List ℕ
-seats_in [] = []
-seats_in (t ∷ ts) = cond (nat_lt t 256) (t ∷ seats_in ts) (seats_in ts)
+-- the seats among what stands at places: each place has a seat or is a hole
+abbrev pub seats_in : List (Option ℕ) → List ℕ
+seats_in = filter_map (λ (slot : Option ℕ). slot)
 
 -- the seats that stand before a place
 abbrev pub below : Acceptance → ℕ → List ℕ
@@ -27,7 +28,7 @@ below a p = seats_in (take p (vec_items a.slots))
 
 -- the listed seats, the first accepted first
 abbrev pub listed : Acceptance → List ℕ
-listed a = below a a.end
+listed a = seats_in (vec_items a.slots)
 
 -- the place that is noted for a seat; it says nothing of a seat that is not listed
 abbrev pub place_of : Acceptance → ℕ → ℕ
@@ -35,4 +36,8 @@ place_of a s = slice_index (vec_items a.places) s
 
 -- the seat at a place, if the place is in use and not a hole
 abbrev pub seat_at : Acceptance → ℕ → Option ℕ
-seat_at a p = cond (nat_lt p a.end && nat_lt (slice_index (vec_items a.slots) p) 256) (Some (slice_index (vec_items a.slots) p)) None
+seat_at a p = slice_index_or (vec_items a.slots) p None
+
+-- the place behind all listed seats
+abbrev pub end_of : Acceptance → ℕ
+end_of a = vec_len a.slots

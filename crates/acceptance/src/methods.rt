@@ -1,9 +1,9 @@
 // Listing a seat, removing it, and looking at the seats in order.
-ghost use Rattle.std.specs.Prelude.{◌≡◌, ℕ, ◌+◌, ◌<◌, ◌≤◌, false, not, [], ◌∷◌, ◌++◌, length, take, IfOk, if◌then◌else◌, MatchOption};
-ghost use Rattle.acceptance.specs.Listed.{below, listed, member, place_of, removed, seat_at, seats_in};
+ghost use Rattle.std.specs.Prelude.{◌≡◌, ℕ, ◌+◌, ◌<◌, ◌≤◌, false, not, [], ◌∷◌, ◌++◌, IfOk, if◌then◌else◌, MatchOption, length, vec_len, vec_capacity};
+ghost use Rattle.acceptance.specs.Listed.{below, end_of, listed, member, place_of, removed, seat_at, seats_in};
 ghost use Rattle.acceptance.specs.Placed.{Placed};
 
-use crate::{Acceptance, NO_SEAT, PLACES, SEATS};
+use crate::{Acceptance, PLACES, SEATS};
 use std::alloc::{AllocError, Global};
 
 impl Acceptance {
@@ -11,21 +11,16 @@ impl Acceptance {
     pub fn new(heap: Global) -> Result<Acceptance, AllocError>
         ensures { IfOk result (λ a. listed a ≡ []) }
     {
-        let slots = vec![in heap; NO_SEAT; PLACES]?;
-        let places = vec![in heap; 0u16; SEATS]?;
-        Ok(Acceptance {
-            slots,
-            end: 0,
-            places,
-        })
+        let slots = Vec::with_capacity(heap, PLACES)?;
+        let places = vec![in heap; 0; SEATS]?;
+        Ok(Acceptance { slots, places })
     }
 
     // Whether the seat is listed.
     pub fn lists(&self, seat: u8) -> bool
         ensures { result ≡ member seat (listed self.now) }
     {
-        let place = self.place(seat);
-        place < self.end && self.slots[place] == seat as u16
+        self.at(self.place(seat)) == Some(seat)
     }
 
     // Lists a seat behind all others, or refuses it where it is listed already.
@@ -37,7 +32,7 @@ impl Acceptance {
         if self.lists(seat) {
             return false;
         }
-        if self.end == PLACES {
+        if self.slots.len() == PLACES {
             self.close_up();
         }
         self.append(seat);
@@ -49,14 +44,14 @@ impl Acceptance {
         ensures answer { result ≡ member seat (listed self.old) }
         ensures listed { listed self.new ≡ (if result then removed seat (listed self.old) else listed self.old) }
         ensures stays { (t : ℕ) → place_of self.new t ≡ place_of self.old t }
-        ensures end { self.new.end ≡ self.old.end }
+        ensures end { end_of self.new ≡ end_of self.old }
         ensures refused { result ≡ false → self.new ≡ self.old }
     {
         if !self.lists(seat) {
             return false;
         }
         let place = self.place(seat);
-        self.slots[place] = NO_SEAT;
+        self.slots[place] = None;
         true
     }
 
@@ -65,71 +60,56 @@ impl Acceptance {
         ensures value { result ≡ place_of self.now seat }
         ensures low { result < 65536 }
     {
-        self.places[seat as usize] as usize
+        usize::from(self.places[usize::from(seat)])
     }
 
     // The seat at a place, if there is one.
     pub fn at(&self, place: usize) -> Option<u8>
         ensures value { result ≡ seat_at self.now place }
-        ensures cases { MatchOption result (place < self.now.end → below self.now (place + 1) ≡ below self.now place) (λ s. (below self.now (place + 1) ≡ below self.now place ++ (s ∷ [])) × (place_of self.now s ≡ place) × (place < self.now.end)) }
+        ensures cases { MatchOption result (below self.now (place + 1) ≡ below self.now place) (λ s. (below self.now (place + 1) ≡ below self.now place ++ (s ∷ [])) × (place_of self.now s ≡ place) × (place < end_of self.now)) }
     {
-        if place >= self.end {
-            return None;
-        }
-        let seat = self.slots[place];
-        if seat < NO_SEAT {
-            Some(seat as u8)
-        } else {
-            None
-        }
+        *self.slots.get(place)?
     }
 
     // The place behind all listed seats.
     pub fn end(&self) -> usize
-        ensures { result ≡ self.now.end }
+        ensures { result ≡ end_of self.now }
     {
-        let behind = self.end;
-        behind
+        self.slots.len()
     }
 
     // Lists a seat that is not listed, where a place is left.
     fn append(&mut self, seat: u8)
-        requires room { self.old.end < 512 }
+        requires room { end_of self.old < 512 }
         requires apart { member seat (listed self.old) ≡ false }
         ensures { listed self.new ≡ listed self.old ++ (seat ∷ []) }
     {
-        self.slots[self.end] = seat as u16;
-        self.places[seat as usize] = self.end as u16;
-        self.end += 1;
+        self.places[usize::from(seat)] = self.slots.len() as u16;
+        self.slots.push_reserved(Some(seat));
     }
 
     // Closes up the holes, so that a place is left.
     fn close_up(&mut self)
-        ensures room { self.new.end < 512 }
+        ensures room { end_of self.new < 512 }
         ensures listed { listed self.new ≡ listed self.old }
     {
-        self.end = close_holes(&mut self.slots, &mut self.places, self.end);
+        close_holes(&mut self.slots, &mut self.places);
     }
 }
 
-// Moves the seats that stand before the end to the first places, in their order. How many are they?
-fn close_holes(slots: &mut [u16], places: &mut [u16], end: usize) -> usize
-    requires full { length slots.old ≡ 512 }
+// Closes up the holes, and notes the seats' new places.
+fn close_holes(slots: &mut Vec<Option<u8>>, places: &mut [u16])
     requires noted { length places.old ≡ 256 }
-    requires within { end ≤ 512 }
-    requires placed { Placed slots.old places.old end }
-    ensures few { result ≤ 256 }
-    ensures seats { seats_in (take result slots.new) ≡ seats_in (take end slots.old) }
-    ensures placed { Placed slots.new places.new result }
+    requires placed { Placed slots.old.items places.old }
+    ensures few { vec_len slots.new ≤ 256 }
+    ensures room { vec_capacity slots.new ≡ vec_capacity slots.old }
+    ensures seats { seats_in slots.new.items ≡ seats_in slots.old.items }
+    ensures placed { Placed slots.new.items places.new }
 {
-    let mut count = 0;
-    for place in 0..end {
-        let seat = slots[place];
-        if seat < NO_SEAT {
-            slots[count] = seat;
-            places[seat as usize] = count as u16;
-            count += 1;
+    slots.retain(|slot| slot.is_some());
+    for (place, slot) in slots.iter().enumerate() {
+        if let Some(seat) = slot {
+            places[usize::from(*seat)] = place as u16;
         }
     }
-    count
 }

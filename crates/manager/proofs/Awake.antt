@@ -2,11 +2,11 @@
 --   Walked                 what holds after the places before one
 --   walk_start, place_none, place_seat   the walk
 --   awake_state, awake_sound             its end: every task that may is ready
-use Rattle.std.proofs.Common.{◌≡◌, ℕ, ◌+◌, ◌<◌, ◌≤◌, min, Bool, true, false, cond, not, ◌&&◌, ◌||◌, eqb, List, [], ◌∷◌, ◌++◌, map, length, sym, refl, ap, ◌∙◌, subst, ap₂, inl, inr, append_assoc, append-nil, arith, length-append}
+use Rattle.std.proofs.Common.{◌≡◌, ℕ, ◌+◌, ◌<◌, ◌≤◌, Bool, true, false, cond, not, ◌&&◌, ◌||◌, eqb, List, [], ◌∷◌, ◌++◌, map, length, sym, refl, ap, ◌∙◌, subst, ap₂, inl, inr, append_assoc, append-nil, arith, length-append}
 use Rattle.std.proofs.lemmas.Bool.{eqb-true, eq-eqb, both_ways, and_parts, and_left, and_right, cases_Bool}
 use Rattle.acceptance.specs.declared.Acceptance.{Acceptance}
 use Rattle.acceptance.specs.Listed.{member, below, listed, place_of}
-use Rattle.acceptance.proofs.Laws.{between}
+use Rattle.acceptance.proofs.Laws.{from_place}
 use Rattle.ring.specs.declared.Ring.{Ring}
 use Rattle.ring.specs.Model.{contents_of}
 use Rattle.roll.specs.Roll.{Standing as OnRoll, Roll, rouse, stand, wake, woken}
@@ -27,7 +27,7 @@ use Rattle.manager.specs.Finished.{Waking, wakes, BecameReady}
 use Rattle.manager.specs.Model.{seat_at, roll_of, ready_of, free_of, state_of}
 use Rattle.manager.specs.Sound.{is_free, is_waiting, free_at, waiting_at, Seated, Sound}
 use Rattle.manager.proofs.Decided.{entry_at, idle_at, tables_decide}
-use Rattle.manager.proofs.Passed.{passed, passed_first, passed_few, passed_apart, passed_hole, passed_seat, passed_new, passed_has, passed_not}
+use Rattle.manager.proofs.Passed.{passed, passed_first, passed_few, passed_apart, passed_new, passed_has, passed_not}
 use Rattle.manager.proofs.Rolls.{map_same}
 use Rattle.manager.proofs.Roused.{waiting_not_free}
 use Rattle.manager.proofs.Seats.{seat_listed, entries_own}
@@ -134,11 +134,11 @@ walk_more i j k p s r e new h answer g =
     }
 
 -- one place further, with how many became ready: no seat stands there
-pub place_none : (i j : Inner) (p n : ℕ) → Walked i j p → n ≡ length (line_at i p) → (p < j.order.end → below j.order (p + 1) ≡ below j.order p) →
+pub place_none : (i j : Inner) (p n : ℕ) → Walked i j p → n ≡ length (line_at i p) → below j.order (p + 1) ≡ below j.order p →
     Walked i j (p + 1) × (n ≡ length (line_at i (p + 1)))
 place_none i j p n h count none =
     let e : passed i.order (p + 1) ≡ passed i.order p =
-    subst (λ (a : Acceptance). passed a (p + 1) ≡ passed a p) h.order (passed_hole j.order p none) in
+    subst (λ (a : Acceptance). passed a (p + 1) ≡ passed a p) h.order none in
     (walk_still i j p (p + 1) e h, count ∙ ap (λ (l : List ℕ). length (kept (wakes i) l)) (sym e))
 
 -- or one does
@@ -147,11 +147,11 @@ more_by n m xs s true e c = let sum = length-append xs (s ∷ []) in omega arith
 more_by n m xs s false e c = let same : length (xs ++ []) ≡ length xs = ap length (append-nil xs) in omega arith
 
 pub place_seat : (i j k : Inner) (p s n m : ℕ) (r : Bool) → Walked i j p → n ≡ length (line_at i p) → m ≡ n + tally r →
-    below j.order (p + 1) ≡ below j.order p ++ (s ∷ []) → p < j.order.end →
+    below j.order (p + 1) ≡ below j.order p ++ (s ∷ []) →
     r ≡ wakes j s → BecameReady j k (λ t. eqb t s && r) (cond r (s ∷ []) []) → Walked i k (p + 1) × (m ≡ length (line_at i (p + 1)))
-place_seat i j k p s n m r h count sum there low answer g =
+place_seat i j k p s n m r h count sum there answer g =
     let e : passed i.order (p + 1) ≡ passed i.order p ++ (s ∷ []) =
-    subst (λ (a : Acceptance). passed a (p + 1) ≡ passed a p ++ (s ∷ [])) h.order (passed_seat j.order p s there low) in
+    subst (λ (a : Acceptance). passed a (p + 1) ≡ passed a p ++ (s ∷ [])) h.order there in
     let new = passed_new i.order p s e in
     let same : r ≡ wakes i s = answer ∙ wakes_same i j p s h new in
     (walk_more i j k p s r e new h answer g, more_by n m (line_at i p) s r count sum ∙ ap length (line_more i p s r e same))
@@ -188,11 +188,11 @@ module _ (i j : Inner) (span : Span) (p : ℕ) (k : Waking i span) (h : Walked i
       not_taken true e = sym e
       not_taken false e = refl
 
-  behind_none : (t : ℕ) → member t (between i.order (min p i.order.end) i.order.end) ≡ true → wakes i t ≡ false
+  behind_none : (t : ℕ) → member t (from_place i.order p) ≡ true → wakes i t ≡ false
   behind_none t m =
       elim (cases_Bool (wakes i t)) [
         | inr w ↦ w
-        | inl w ↦ absurd (both_ways (member t (between i.order (min p i.order.end) i.order.end)) (passed_apart i.order p t (all_reached t w)) m)
+        | inl w ↦ absurd (both_ways (member t (from_place i.order p)) (passed_apart i.order p t (all_reached t w)) m)
       ]
 
   decided : Decides (entry_at i) (idle_at i) [] (listed i.order)
@@ -202,7 +202,7 @@ module _ (i j : Inner) (span : Span) (p : ℕ) (k : Waking i span) (h : Walked i
   pub line_woken : line_at i p ≡ woken [] (roll_of i)
   line_woken =
       let l = listed i.order in
-      let rest = between i.order (min p i.order.end) i.order.end in
+      let rest = from_place i.order p in
       let all : kept (wakes i) l ≡ line_at i p =
       ap (kept (wakes i)) (passed_first i.order p) ∙ kept-++ (wakes i) (passed i.order p) rest ∙ ap (λ (x : List ℕ). line_at i p ++ x) (kept_none (wakes i) rest behind_none) ∙ append-nil (line_at i p) in
       sym all

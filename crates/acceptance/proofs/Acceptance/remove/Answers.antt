@@ -1,32 +1,18 @@
-use Rattle.std.proofs.Common.{◌≡◌, ℕ, true, take, set, vec_items, sym, refl, ap, ◌∙◌, arith}
-use Rattle.std.proofs.lemmas.Bool.{both_ways}
-use Rattle.acceptance.specs.Listed.{member, listed, seats_in}
-use Rattle.acceptance.proofs.Places.{at_place, hole, hole_placed}
+use Rattle.std.proofs.Common.{ℕ, None, vec_items, set, sym, ap, ◌∙◌, arith}
+use Rattle.acceptance.specs.Listed.{seats_in, place_of}
+use Rattle.acceptance.proofs.Places.{stands_low, at_place, hole, hole_placed}
 use Rattle.acceptance.proofs.Acceptance.remove.Goals as goal
 
 pub index_mut-requires : goal.index_mut-requires
 index_mut-requires c =
     let a = c.args.self.now in
-    omega (arith, (at_place (vec_items a.slots) (vec_items a.places) a.end (omega arith) a.placed c.args.seat (sym c.if-not-lists.ensures)).1)
+    let there = (at_place (vec_items a.slots) (vec_items a.places) a.placed c.args.seat (sym c.if-not-lists.ensures)).1 in
+    omega (arith, stands_low (vec_items a.slots) (place_of a c.args.seat) c.args.seat there)
 
-pub invariant_of-self : goal.invariant_of-self
-invariant_of-self c =
-    let a = c.args.self.now in
-    let slots = vec_items a.slots in
-    let places = vec_items a.places in
-    let there = (at_place slots places a.end (omega arith) a.placed c.args.seat (sym c.if-not-lists.ensures)).1 in
-    record { full = a.full; noted = a.noted; within = a.within; placed = hole_placed slots places a.end (omega arith) a.placed c.place-place.result (omega arith) }
+pub invariant_of-self-clause-placed : goal.invariant_of-self-clause-placed
+invariant_of-self-clause-placed c = hole_placed (vec_items c.args.self.now.slots) (vec_items c.args.self.now.places) c.args.self.now.placed c.place-place.result
 
-pub returns : goal.returns
-returns c =
+pub returns-clause-listed : goal.returns-clause-listed
+returns-clause-listed c =
     let a = c.args.self.now in
-    let slots = vec_items a.slots in
-    let places = vec_items a.places in
-    let on : member c.args.seat (listed a) ≡ true = sym c.if-not-lists.ensures in
-    record {
-      answer = sym on;
-      listed = ap (λ (p : ℕ). seats_in (take a.end (set slots p 256))) c.place-place.ensures.value ∙ hole slots places a.end (omega arith) a.placed c.args.seat on;
-      stays = λ _. refl;
-      end = refl;
-      refused = λ off. absurd (both_ways true off refl);
-    }
+    ap (λ (p : ℕ). seats_in (set (vec_items a.slots) p None)) c.place-place.ensures.value ∙ hole (vec_items a.slots) (vec_items a.places) a.placed c.args.seat (sym c.if-not-lists.ensures)

@@ -1,5 +1,6 @@
-use Rattle.acceptance.proofs.Closing.{Closing}
+use Rattle.std.proofs.Common.{take}
+use Rattle.acceptance.specs.Placed.{Placed}
 use Rattle.acceptance.proofs.methods.close_holes.Given as goal
 
 abbrev pub invariant-loop-place : goal.invariant-loop-place
-invariant-loop-place l = Closing l.initial.slots l.slots l.places l.count l.place
+invariant-loop-place l = Placed (take l.place l.slot-items) l.places

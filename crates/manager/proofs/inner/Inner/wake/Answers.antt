@@ -1,5 +1,5 @@
 use Rattle.std.proofs.Common.{◌≡◌, ℕ, ◌+◌, ◌<◌, Bool, cond, ◌&&◌, eqb, [], ◌∷◌, ◌++◌, length, sym, ap, ◌∙◌, subst, ap₂, add-zero, arith}
-use Rattle.acceptance.specs.Listed.{below, place_of}
+use Rattle.acceptance.specs.Listed.{below, end_of, place_of}
 use Rattle.roll.specs.Tables.{tally}
 use Rattle.manager.specs.Finished.{wakes, BecameReady}
 use Rattle.manager.specs.declared.inner.Inner.{Inner}
@@ -23,11 +23,11 @@ loop-place-preserved c =
     let n : ℕ = c.loop-place.count in
     let h = c.loop-place.invariant.0 in
     let count = c.loop-place.invariant.1 in
-    let roused : (s : ℕ) (r : Bool) (k : Inner) → (below j.order (p + 1) ≡ below j.order p ++ (s ∷ [])) × (place_of j.order s ≡ p) × (p < j.order.end) →
+    let roused : (s : ℕ) (r : Bool) (k : Inner) → (below j.order (p + 1) ≡ below j.order p ++ (s ∷ [])) × (place_of j.order s ≡ p) × (p < end_of j.order) →
     c.match-at.self ≡ k → c.match-at.count ≡ n + tally r → r ≡ wakes j s → BecameReady j k (λ t. eqb t s && r) (cond r (s ∷ []) []) →
     Walked i c.match-at.self (p + 1) × (c.match-at.count ≡ length (line_at i (p + 1))) = λ s r k there self sum answer after.
     subst (λ (k' : Inner). Walked i k' (p + 1) × (c.match-at.count ≡ length (line_at i (p + 1)))) (sym self)
-    (place_seat i j k p s n c.match-at.count r h count sum there.0 there.2 answer after) in
+    (place_seat i j k p s n c.match-at.count r h count sum there.0 answer after) in
     elim c.match-at.branch [
       | in-Some+then-rouse w ↦ roused w.in-Some.seat w.rouse.result w.rouse.new.self w.in-Some.ensures.cases w.self-is
           (w.count-is ∙ ap (λ (b : Bool). n + tally b) (sym w.if-rouse.true)) w.rouse.ensures.answer w.rouse.ensures.after
