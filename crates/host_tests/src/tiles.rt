@@ -1,5 +1,4 @@
 use host::{Host, ReadBack};
-use std::process::Abort;
 use std::test::Fail;
 use tile_host::{Tile, TileHost, tile_rule};
 
@@ -11,20 +10,17 @@ const LIGHT: Tile = Tile {
     channels: [4, 2, 0, 65_534],
 };
 
-fn same(rt: &impl Abort, tile: Tile, channels: [u16; 4]) {
-    for c in 0..4 {
-        assert_eq!(rt; tile.channels[c], channels[c]);
-    }
-}
-
 #[test]
 fn the_rule_goes_by_the_kind(rt: HostRuntime) {
-    same(&rt, tile_rule(0, &[DARK, LIGHT]), [0, 0, 0, 0]);
-    same(&rt, tile_rule(1, &[DARK, LIGHT]), [2, 2, 1, 65_534]);
-    same(&rt, tile_rule(2, &[DARK, LIGHT]), [4, 2, 3, 65_535]);
-    same(&rt, tile_rule(3, &[DARK, LIGHT]), [1, 2, 3, 65_535]);
-    same(&rt, tile_rule(u32::MAX, &[LIGHT, DARK]), [4, 2, 0, 65_534]);
-    same(&rt, tile_rule(2, &[]), [0, 0, 0, 0]);
+    assert_eq!(rt; tile_rule(0, &[DARK, LIGHT]).channels, [0, 0, 0, 0]);
+    assert_eq!(rt; tile_rule(1, &[DARK, LIGHT]).channels, [2, 2, 1, 65_534]);
+    assert_eq!(rt; tile_rule(2, &[DARK, LIGHT]).channels, [4, 2, 3, 65_535]);
+    assert_eq!(rt; tile_rule(3, &[DARK, LIGHT]).channels, [1, 2, 3, 65_535]);
+    assert_eq!(rt;
+        tile_rule(u32::MAX, &[LIGHT, DARK]).channels,
+        [4, 2, 0, 65_534]
+    );
+    assert_eq!(rt; tile_rule(2, &[]).channels, [0, 0, 0, 0]);
 }
 
 #[test]
@@ -35,9 +31,24 @@ fn a_host_holds_the_multiples_of_16(rt: HostRuntime) -> Result<(), Fail> {
     host.bring(0, 3, 0);
     host.bring(16, 3, 1);
     host.put(1, 0, 2, 3, 16);
-    same(&rt, host.value_at(16).ok_or("held")?, [2, 2, 1, 65_534]);
-    same(&rt, host.value_at(0).ok_or("held")?, [1, 2, 3, 65_535]);
+    assert_eq!(rt;
+        host.value_at(16),
+        Some(Tile {
+            channels: [2, 2, 1, 65_534]
+        })
+    );
+    assert_eq!(rt;
+        host.value_at(0),
+        Some(Tile {
+            channels: [1, 2, 3, 65_535]
+        })
+    );
     host.put(0, 0, 2, 3, 17);
-    same(&rt, host.value_at(16).ok_or("held")?, [2, 2, 1, 65_534]);
+    assert_eq!(rt;
+        host.value_at(16),
+        Some(Tile {
+            channels: [2, 2, 1, 65_534]
+        })
+    );
     Ok(())
 }

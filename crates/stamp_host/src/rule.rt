@@ -7,9 +7,8 @@ ghost use Rattle.stamp_host.specs.Rule.{stamp_rule};
 pub fn stamp_rule(kind: u32, access: u8, values: &[u64]) -> u64
     ensures { result ≡ stamp_rule kind access values.now }
 {
-    let mut code = u64::from(kind) + u64::from(access);
-    for value in values {
-        code = (code.rotate_left(7) ^ *value).wrapping_add(1);
-    }
-    code
+    let start = u64::from(kind) + u64::from(access);
+    values.iter().fold(start, |code, value| {
+        (code.rotate_left(7) ^ *value).wrapping_add(1)
+    })
 }

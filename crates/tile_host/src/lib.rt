@@ -20,7 +20,7 @@ pub const MAX_TILES: usize = 4096;
 pub const TILE_STEP: u64 = 16;
 
 // A number of 16 bits for each channel.
-#[derive(Clone, Copy, Debug)]
+#[derive(Clone, Copy, Debug, PartialEq, Eq)]
 pub struct Tile {
     pub channels: [u16; CHANNELS],
 }

@@ -1,17 +1,36 @@
 // The work rule of tiles.
-ghost use Rattle.std.specs.Prelude.{◌≡◌, ◌*◌, ◌/◌, ◌<◌, ◌≤◌, length};
-ghost use Rattle.tile_host.specs.Rule.{total, highest, blank, tile_rule};
+ghost use Rattle.std.specs.Prelude.{◌≡◌, ℕ, ◌/◌, ◌<◌, length};
+ghost use Rattle.tile_host.specs.Rule.{total, highest, blank, work_of, tile_of, tile_rule};
 
 use crate::{CHANNELS, Tile};
+use std::array;
 
-// The kind of work that gives zeros.
-const ZEROS: u32 = 0;
+// What a kind of work asks for.
+#[derive(Clone, Copy, Debug, PartialEq, Eq)]
+enum Work {
+    // Zeros.
+    Zeros,
+    // Each channel's average, rounded down.
+    Average,
+    // Each channel's maximum.
+    Maximum,
+    // The first value.
+    First,
+}
 
-// The kind of work that gives each channel's average.
-const AVERAGE: u32 = 1;
+// The work that a kind asks for.
+impl From<u32> for Work {
+    ghost from_gives = { λ kind w. w ≡ work_of kind };
 
-// The kind of work that gives each channel's maximum.
-const MAXIMUM: u32 = 2;
+    fn from(kind: u32) -> Work {
+        match kind {
+            0 => Work::Zeros,
+            1 => Work::Average,
+            2 => Work::Maximum,
+            _ => Work::First,
+        }
+    }
+}
 
 // The tile with 0 in every channel.
 pub(crate) fn blank_tile() -> Tile
@@ -22,38 +41,27 @@ pub(crate) fn blank_tile() -> Tile
     }
 }
 
-// The sum of a channel over the values.
-fn channel_sum(values: &[Tile], channel: usize) -> u128
-    requires { channel < 4 }
-    ensures value { result ≡ total channel values.now }
-    ensures bound { result ≤ 65535 * length values.now }
-{
-    let mut sum = 0u128;
-    for value in values {
-        sum += u128::from(value.channels[channel]);
-    }
-    sum
-}
-
 // The average of a channel over the values, rounded down.
-fn channel_average(values: &[Tile], channel: usize) -> u16
+fn average(values: &[Tile], channel: usize) -> u16
     requires within { channel < 4 }
     requires some { 0 < length values.now }
     ensures { result ≡ total channel values.now / length values.now }
 {
-    (channel_sum(values, channel) / values.len() as u128) as u16
+    let sum: u128 = values
+        .iter()
+        .map(|tile| u128::from(tile.channels[channel]))
+        .sum();
+    (sum / values.len() as u128) as u16
 }
 
 // The greatest number of a channel over the values, or 0.
-fn channel_max(values: &[Tile], channel: usize) -> u16
+fn maximum(values: &[Tile], channel: usize) -> u16
     requires { channel < 4 }
     ensures { result ≡ highest channel values.now }
 {
-    let mut highest = 0u16;
-    for value in values {
-        highest = highest.max(value.channels[channel]);
-    }
-    highest
+    values
+        .iter()
+        .fold(0, |highest, tile| highest.max(tile.channels[channel]))
 }
 
 // Kind 0 gives zeros, kind 1 each channel's average rounded down, kind 2 each channel's maximum, any other kind the first
@@ -64,24 +72,14 @@ pub fn tile_rule(kind: u32, values: &[Tile]) -> Tile
     let [first, ..] = values else {
         return blank_tile();
     };
-    match kind {
-        ZEROS => blank_tile(),
-        AVERAGE => Tile {
-            channels: [
-                channel_average(values, 0),
-                channel_average(values, 1),
-                channel_average(values, 2),
-                channel_average(values, 3),
-            ],
+    match Work::from(kind) {
+        Work::Zeros => blank_tile(),
+        Work::Average => Tile {
+            channels: array::from_fn(|channel| average(values, channel)),
         },
-        MAXIMUM => Tile {
-            channels: [
-                channel_max(values, 0),
-                channel_max(values, 1),
-                channel_max(values, 2),
-                channel_max(values, 3),
-            ],
+        Work::Maximum => Tile {
+            channels: array::from_fn(|channel| maximum(values, channel)),
         },
-        _ => *first,
+        Work::First => *first,
     }
 }
