@@ -1,6 +1,7 @@
 -- Which seat the tables give a task, or why they refuse it, from what each check answers. Assumes nothing.
-use Rattle.std.proofs.Common.{◌≡◌, ℕ, ◌+◌, ◌-◌, true, false, cond, ◌||◌, eqb, ltb, List, [], ◌∷◌, length, is_some, Some, None, Ok, Err, sym, ap, ap₂, arith}
+use Rattle.std.proofs.Common.{◌≡◌, ℕ, ◌+◌, ◌-◌, true, false, cond, ◌||◌, eqb, ltb, List, [], ◌∷◌, length, is_some, Some, None, Ok, Err, Option, ap, ap₂}
 use mathlib.Core.Path.{fun_ext}
+use Rattle.std.specs.Option.{ok_or}
 use Rattle.std.proofs.lemmas.Bool.{ne_eqb, or_from}
 use Rattle.fault.specs.declared.TableFault.{TableFault}
 use Rattle.fault.specs.declared.TableFault.TheVariants.{NeverFits, NoFreeSeat, TooFewVersions}
@@ -10,6 +11,7 @@ use Rattle.roll.specs.Tables.{Tables, fresh, occupied, crowded, missing, none_fr
 use Rattle.ring.specs.Model.{first_of}
 use Rattle.claims.specs.Queues.{bares}
 use Rattle.claims.proofs.Alike.{needs_bares, used_bares, fresh_bares, occupied_bares}
+use Rattle.tracker.specs.Tracked.{unless}
 use Rattle.manager.specs.Entered.{table_fault, seat_unless}
 
 -- whether a task stalls is seen from the seats and accesses of the roll alone
@@ -35,19 +37,28 @@ pub fits_from : (z : Tables) (xs : List Access) → (z.seats ≡ 0 → ⊥) → 
 fits_from z xs some large = or_from (eqb z.seats 0) (ltb z.versions (length xs) || is_some (crowded (λ set. fresh z [] set xs))) (ne_eqb z.seats 0 some) large
 
 -- and one that fits, for want of a free seat
-pub refuses_free : (z : Tables) (v : Roll) (free : List ℕ) (xs : List Access) → never_fits z xs ≡ false → None ≡ first_of free →
-    Err NoFreeSeat ≡ seat_unless (table_fault z v free xs) free
-refuses_free z v [] xs fits none = rw fits
-refuses_free z v (s ∷ free) xs fits none = let no : ◌≡◌ {A = ℕ} 0 1 = cc in absurd (omega arith)
+pub refuses_free : (z : Tables) (v : Roll) (free : List ℕ) (xs : List Access) (fault : TableFault) → never_fits z xs ≡ false → Err fault ≡ ok_or (first_of free) NoFreeSeat →
+    Err fault ≡ seat_unless (table_fault z v free xs) free
+refuses_free z v [] xs fault fits none = rw fits none
+refuses_free z v (s ∷ free) xs fault fits none = cc
 
 -- with a free seat, the task is refused where it stalls for another reason
-pub refuses_stall : (z : Tables) (v : Roll) (free : List ℕ) (xs : List Access) (s : ℕ) (fault : TableFault) → never_fits z xs ≡ false → Some s ≡ first_of free →
-    Some fault ≡ stall z v (0 ∷ []) xs → Err fault ≡ seat_unless (table_fault z v free xs) free
-refuses_stall z v [] xs s fault fits first stalls = let no : ◌≡◌ {A = ℕ} 0 1 = cc in absurd (omega arith)
-refuses_stall z v (t ∷ free) xs s fault fits first stalls = rw (fits, sym stalls)
+stalls : (o : Option TableFault) (free : List ℕ) (fault : TableFault) → Err fault ≡ unless o → Err fault ≡ seat_unless o free
+stalls None free fault e = cc
+stalls (Some f) free fault e = let same : fault ≡ f = cc in ap Err same
+
+pub refuses_stall : (z : Tables) (v : Roll) (free : List ℕ) (xs : List Access) (s : ℕ) (fault : TableFault) → never_fits z xs ≡ false →
+    Ok s ≡ ok_or (first_of free) NoFreeSeat → Err fault ≡ unless (stall z v (0 ∷ []) xs) → Err fault ≡ seat_unless (table_fault z v free xs) free
+refuses_stall z v [] xs s fault fits first stop = cc
+refuses_stall z v (t ∷ free) xs s fault fits first stop = rw fits (stalls (stall z v (t ∷ free) xs) (t ∷ free) fault stop)
 
 -- and else it gets the first free seat
-pub gives_seat : (z : Tables) (v : Roll) (free : List ℕ) (xs : List Access) (s : ℕ) → never_fits z xs ≡ false → Some s ≡ first_of free →
-    None ≡ stall z v (0 ∷ []) xs → Ok s ≡ seat_unless (table_fault z v free xs) free
-gives_seat z v [] xs s fits first goes = let no : ◌≡◌ {A = ℕ} 0 1 = cc in absurd (omega arith)
-gives_seat z v (t ∷ free) xs s fits first goes = rw (fits, sym goes) (let same : s ≡ t = cc in ap Ok same)
+goes_on : (o : Option TableFault) (s : ℕ) (free : List ℕ) → Ok tt ≡ unless o → Ok s ≡ ok_or (first_of free) NoFreeSeat → Ok s ≡ seat_unless o free
+goes_on o s [] goes first = cc
+goes_on (Some f) s (t ∷ free) goes first = cc
+goes_on None s (t ∷ free) goes first = first
+
+pub gives_seat : (z : Tables) (v : Roll) (free : List ℕ) (xs : List Access) (s : ℕ) → never_fits z xs ≡ false →
+    Ok s ≡ ok_or (first_of free) NoFreeSeat → Ok tt ≡ unless (stall z v (0 ∷ []) xs) → Ok s ≡ seat_unless (table_fault z v free xs) free
+gives_seat z v [] xs s fits first goes = cc
+gives_seat z v (t ∷ free) xs s fits first goes = rw fits (goes_on (stall z v (t ∷ free) xs) s (t ∷ free) goes first)

@@ -4,7 +4,9 @@
 --   blocked_at           how many accesses of a seat's task wait
 --   repeats, doubled     a task has an address twice; two tasks have one seat
 --   Tracked              the tables stand for a roll
-use Rattle.std.specs.Prelude.{◌≡◌, ℕ, ◌%◌, ◌<◌, ◌≤◌, Bool, false, ◌||◌, List, [], ◌∷◌, ◌++◌, length, vec_items, ◌==◌, slice_index}
+--   unless               a check that answers a fault of the tables
+use Rattle.std.specs.Prelude.{◌≡◌, ℕ, ◌%◌, ◌<◌, ◌≤◌, Bool, false, ◌||◌, List, [], ◌∷◌, ◌++◌, length, Some, None, Ok, Err, Option, Result, vec_items, ◌==◌, slice_index}
+use Rattle.fault.specs.declared.TableFault.{TableFault}
 use Rattle.task.specs.declared.Access.{Access}
 use Rattle.admission.specs.Admission.{occurs}
 use Rattle.roll.specs.Roll.{Entry, Roll}
@@ -52,3 +54,8 @@ pub record Tracked (t : Tracker) (v : Roll) : Type 0 where
   -- no two tasks have one seat, and there are at most as many as seats
   pub seats : doubled v ≡ false
   pub few : length v ≤ 256
+
+-- a check that answers the fault, if there is one
+abbrev pub unless : Option TableFault → Result (Unit {0}) TableFault
+unless (Some fault) = Err fault
+unless None = Ok tt

@@ -4,7 +4,7 @@ ghost use Rattle.task.specs.Access.{writes};
 ghost use Rattle.roll.specs.Roll.{Roll};
 ghost use Rattle.roll.specs.Tables.{live, needs, fresh, crowded, full_set, stall, tally};
 ghost use Rattle.tracker.specs.Table.{live_at};
-ghost use Rattle.tracker.specs.Tracked.{Tracked, sized};
+ghost use Rattle.tracker.specs.Tracked.{Tracked, sized, unless};
 
 use crate::tracker::Tracker;
 use fault::TableFault;
@@ -105,31 +105,31 @@ impl Tracker {
         demand
     }
 
-    // The lowest set that has no room for its new addresses.
-    fn lowest_full(&self, demand: &Demand) -> Option<TableFault>
-        ensures { result ≡ full_set (crowded (λ z. live_at self.now.table z + slice_index demand.now.added z)) }
+    // Has every set room for its new addresses? If not, which is the lowest that has none.
+    fn lowest_full(&self, demand: &Demand) -> Result<(), TableFault>
+        ensures { result ≡ unless (full_set (crowded (λ z. live_at self.now.table z + slice_index demand.now.added z))) }
     {
         for set in 0..64u8 {
             let live = self.table.live[set as usize];
             if live.saturating_add(demand.added[set as usize]) > WAYS {
-                return Some(TableFault::SetFull { set });
+                return Err(TableFault::SetFull { set });
             }
         }
-        None
+        Ok(())
     }
 
-    // Why a task with these accesses, which has a seat, cannot enter now: too few versions, or a set without room, in that order.
-    pub fn stall(&self, accesses: &[Access], versions: u16) -> Option<TableFault>
-        ensures { (v : Roll) → Tracked self.now v → length accesses.now ≤ 15 → result ≡ stall (sized 0 versions) v (0 ∷ []) accesses.now }
+    // May a task with these accesses, which has a seat, enter now? If not, why: too few versions, or a set without room, in that order.
+    pub fn stall(&self, accesses: &[Access], versions: u16) -> Result<(), TableFault>
+        ensures { (v : Roll) → Tracked self.now v → length accesses.now ≤ 15 → result ≡ unless (stall (sized 0 versions) v (0 ∷ []) accesses.now) }
     {
         let demand = self.demand(accesses);
         let free = versions.saturating_sub(self.used);
         let missing = demand.versions.saturating_sub(free);
         if missing > 0 {
-            return Some(TableFault::TooFewVersions { missing });
+            return Err(TableFault::TooFewVersions { missing });
         }
         if !demand.full {
-            return None;
+            return Ok(());
         }
         self.lowest_full(&demand)
     }

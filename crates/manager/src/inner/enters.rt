@@ -23,13 +23,9 @@ impl Inner {
         if self.seats == 0 || Tracker::never_fits(accesses, self.versions) {
             return Err(TableFault::NeverFits);
         }
-        let Some(seat) = self.free.first() else {
-            return Err(TableFault::NoFreeSeat);
-        };
-        match self.tracker.stall(accesses, self.versions) {
-            Some(fault) => Err(fault),
-            None => Ok(seat),
-        }
+        let seat = self.free.first().ok_or(TableFault::NoFreeSeat)?;
+        self.tracker.stall(accesses, self.versions)?;
+        Ok(seat)
     }
 
     // The task enters the first free seat, which is this one, and joins the end of the roll.

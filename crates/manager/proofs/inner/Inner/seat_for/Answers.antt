@@ -1,7 +1,12 @@
-use Rattle.std.proofs.Common.{◌≡◌, true, eqb, [], ◌∷◌, sym, ◌∙◌}
+use Rattle.std.proofs.Common.{◌≡◌, ℕ, true, eqb, [], ◌∷◌, Err, Option, sym, ap, ◌∙◌}
+use Rattle.std.specs.Option.{ok_or}
 use Rattle.std.proofs.lemmas.Bool.{eq-eqb, or_left, or_right}
+use Rattle.std.proofs.lemmas.Result.{err_from_is_err_and}
+use Rattle.fault.specs.declared.TableFault.{TableFault}
+use Rattle.fault.specs.declared.TableFault.TheVariants.{NoFreeSeat}
 use Rattle.roll.specs.Tables.{never_fits}
 use Rattle.claims.specs.Queues.{bares}
+use Rattle.tracker.specs.Tracked.{unless}
 use Rattle.manager.specs.Model.{tables_of, roll_of, free_of}
 use Rattle.manager.proofs.Fits.{stall_bares, fits_from, refuses_never, refuses_free, refuses_stall, gives_seat}
 use Rattle.manager.proofs.inner.Inner.seat_for.Goals as goal
@@ -21,32 +26,36 @@ returns-then-self-eq0 c =
     refuses_never (tables_of i) (roll_of i) (free_of i) xs never
 
 -- every seat is taken
-pub returns-in_default : goal.returns-in_default
-returns-in_default c =
+pub returns-in_err-seat : goal.returns-in_err-seat
+returns-in_err-seat c =
     let i = c.args.self.now in
     let xs = c.args.accesses.now in
+    let p = err_from_is_err_and c.from_residual.result c.from_residual.ensures.1 in
     let large = sym c.never_fits.ensures ∙ c.if-never_fits.false in
-    refuses_free (tables_of i) (roll_of i) (free_of i) xs (fits_from (tables_of i) xs c.if-self-eq0.false large) c.in_default.ensures
+    let none = c.in_err-seat.ensures.value ∙ ap (λ (o : Option ℕ). ok_or o NoFreeSeat) c.first.ensures in
+    p.1 ∙ ap (λ (f : TableFault). Err f) p.2
+    ∙ refuses_free (tables_of i) (roll_of i) (free_of i) xs c.in_err-seat.field-0.0 (fits_from (tables_of i) xs c.if-self-eq0.false large) none
 
 -- the tables have no room now
-pub returns-in-Some-stall : goal.returns-in-Some-stall
-returns-in-Some-stall c =
+pub returns-in_err-stall : goal.returns-in_err-stall
+returns-in_err-stall c =
     let i = c.args.self.now in
     let xs = c.args.accesses.now in
     let v = bares (roll_of i) in
-    let tracked = c.requires.sound.seated.tracked in
+    let p = err_from_is_err_and c.from_residual-in_err-stall.result c.from_residual-in_err-stall.ensures.1 in
     let large = sym c.never_fits.ensures ∙ c.if-never_fits.false in
-    let stalls = c.in-Some-stall.ensures v tracked c.requires.few ∙ sym (stall_bares (tables_of i) (roll_of i) (0 ∷ []) xs) in
-    refuses_stall (tables_of i) (roll_of i) (free_of i) xs c.in-Some.seat c.in-Some-stall.fault (fits_from (tables_of i) xs c.if-self-eq0.false large)
-    c.in-Some.ensures stalls
+    let first = c.in_ok-seat.ensures.value ∙ ap (λ (o : Option ℕ). ok_or o NoFreeSeat) c.first.ensures in
+    let stop = c.in_err-stall.ensures v c.requires.sound.seated.tracked c.requires.few ∙ sym (ap unless (stall_bares (tables_of i) (roll_of i) (0 ∷ []) xs)) in
+    p.1 ∙ ap (λ (f : TableFault). Err f) p.2
+    ∙ refuses_stall (tables_of i) (roll_of i) (free_of i) xs c.in_ok-seat.seat c.in_err-stall.field-0.0 (fits_from (tables_of i) xs c.if-self-eq0.false large) first stop
 
 -- the first free seat
-pub returns-in-None : goal.returns-in-None
-returns-in-None c =
+pub returns : goal.returns
+returns c =
     let i = c.args.self.now in
     let xs = c.args.accesses.now in
     let v = bares (roll_of i) in
-    let tracked = c.requires.sound.seated.tracked in
     let large = sym c.never_fits.ensures ∙ c.if-never_fits.false in
-    let goes = c.in-None.ensures v tracked c.requires.few ∙ sym (stall_bares (tables_of i) (roll_of i) (0 ∷ []) xs) in
-    gives_seat (tables_of i) (roll_of i) (free_of i) xs c.in-Some.seat (fits_from (tables_of i) xs c.if-self-eq0.false large) c.in-Some.ensures goes
+    let first = c.in_ok-seat.ensures.value ∙ ap (λ (o : Option ℕ). ok_or o NoFreeSeat) c.first.ensures in
+    let goes = c.in_ok-stall.ensures v c.requires.sound.seated.tracked c.requires.few ∙ sym (ap unless (stall_bares (tables_of i) (roll_of i) (0 ∷ []) xs)) in
+    gives_seat (tables_of i) (roll_of i) (free_of i) xs c.in_ok-seat.seat (fits_from (tables_of i) xs c.if-self-eq0.false large) first goes
