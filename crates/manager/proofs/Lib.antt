@@ -6,7 +6,6 @@ mod Roused
 mod Passed
 mod Awake
 mod Left
-mod Whole
 mod Finishes
 mod Submits
 mod Records

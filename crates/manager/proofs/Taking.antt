@@ -2,22 +2,33 @@
 --   first_ready     the first of the ready line is ready
 --   line_taken      the line behind it has the other ready seats
 --   took_ready      what a take of it comes to
-use Rattle.std.proofs.Common.{◌≡◌, ℕ, ◌+◌, ◌<◌, Bool, true, false, eqb, List, ◌∷◌, Some, sym, refl, ap, ◌∙◌, ap₂, inl, inr, arith}
+--   taken_first     so what the take answers, the state after it, and that the fields agree again
+use Rattle.std.proofs.Common.{◌≡◌, ℕ, ◌+◌, ◌<◌, Bool, true, false, eqb, List, ◌∷◌, get_or, vec_items, Some, Ok, Result, sym, refl, ap, ◌∙◌, ap₂, inl, inr, arith}
 use Rattle.std.proofs.lemmas.Bool.{eq-eqb, ne_eqb, cases_eq}
+use Rattle.fault.specs.declared.ManagerFault.{ManagerFault}
+use Rattle.task.specs.declared.tasks.Task.{Task}
+use Rattle.task.specs.Task.{accesses_of}
 use Rattle.order.specs.Steps.{steps}
-use Rattle.roll.specs.Roll.{ready, running, Entry, find, change}
+use Rattle.roll.specs.Roll.{Roll, Standing as OnRoll, ready, running, Entry, find, change}
 use Rattle.roll.specs.Tables.{tally}
-use Rattle.roll.specs.Calls.{State, succeeded, taken, took, begun, begun_at}
+use Rattle.roll.specs.Calls.{State, Outcome, succeeded, taken, took, begun, begun_at}
+use Rattle.roll.specs.Built.{left_by, take_answer}
 use Rattle.ring.specs.declared.Ring.{Ring}
 use Rattle.ring.specs.Model.{contents_of}
 use Rattle.seat.specs.declared.Standing.TheVariants.{Free, Waiting, Ready, Running}
 use Rattle.seat.specs.declared.Standing as seats
+use Rattle.seat.specs.declared.Event.TheVariants.{Taken}
 use Rattle.seat.specs.declared.seats.Seat.{Seat}
+use Rattle.seat.specs.Phases.{standing_of, first_phase, moved, or_else}
+use Rattle.seat.proofs.Laws.{first_steps}
 use Rattle.manager.specs.declared.inner.Inner.{Inner}
+use Rattle.manager.specs.Answers.{no_values}
 use Rattle.manager.specs.Lines.{occurrences}
-use Rattle.manager.specs.Model.{seat_at, ready_of}
-use Rattle.manager.specs.Sound.{Seated, is_ready, ready_at}
-use Rattle.manager.proofs.Records.{with_record, record_set, record_other}
+use Rattle.manager.specs.Model.{seat_at, entry_of, roll_of, ready_of, free_of, state_of}
+use Rattle.manager.specs.Sound.{Seated, Sound, is_free, is_waiting, is_ready, free_at, ready_at}
+use Rattle.manager.proofs.Moving.{moved_roll, moved_sound}
+use Rattle.manager.proofs.Records.{with_record, record_set, record_other, seat_read}
+use Rattle.manager.proofs.Seats.{roll_found, seat_low}
 
 -- a test that counts is passed
 counted : (b : Bool) → 0 < tally b → b ≡ true
@@ -74,3 +85,61 @@ pub took_ready : {V : Type 0} (b : State V) (s : ℕ) (line : List ℕ) (e : Ent
       seat = s;
     })
 took_ready b s line e first found standing = ap (took b) first ∙ ap (begun_at b s line) found ∙ ap (begun b s line e) standing
+
+-- what a take of this seat, with this line behind it and this record after it, comes to: its answer, the state, and that the fields agree
+pub record Begun (i : Inner) (line : Ring ℕ) (s : ℕ) (new : Seat) : Type 0 where
+  pub answer : (t : Task) → t ≡ new.task → ◌≡◌ {A = Result (ℕ × ℕ × ℕ) ManagerFault} (Ok (s, t.kind, t.name)) (take_answer (took (state_of i no_values) (ready_of i)))
+  pub after : state_of (with_record i line s new) no_values ≡ left_by (state_of i no_values) (took (state_of i no_values) (ready_of i))
+  pub sound : Sound (with_record i line s new)
+
+-- the first of the ready line begins to run, by the record that was lent for its seat and the record after it
+module _ (i : Inner) (sound : Sound i) (line : Ring ℕ) (s : ℕ) (old new : Seat) (first : ready_of i ≡ s ∷ contents_of line)
+    (lent : old ≡ get_or (vec_items i.table.records) s old) (task : new.task ≡ old.task)
+    (standing : new.standing ≡ or_else (moved (accesses_of old.task) old.standing Taken) old.standing) where
+  was : (seat_at i s).standing ≡ Ready
+  was = first_ready i sound.seated s (contents_of line) first
+
+  held : free_at i s ≡ false
+  held = ap is_free was
+
+  low : s < 256
+  low = seat_low i sound.seated s held
+
+  read : old ≡ seat_at i s
+  read = seat_read i s old sound.seated.full low lent
+
+  same_task : new.task ≡ (seat_at i s).task
+  same_task = task ∙ ap (λ (r : Seat). r.task) read
+
+  stands : new.standing ≡ Running (first_phase (accesses_of (seat_at i s).task))
+  stands =
+      standing
+      ∙ ap (λ (r : Seat). or_else (moved (accesses_of r.task) r.standing Taken) r.standing) read
+      ∙ ap (λ (st : seats.Standing). or_else (moved (accesses_of (seat_at i s).task) st Taken) st) was
+
+  runs : standing_of (accesses_of new.task) new.standing ≡ running (steps (accesses_of (seat_at i s).task))
+  runs =
+      ap₂ (λ (t : Task) (st : seats.Standing). standing_of (accesses_of t) st) same_task stands ∙ ap running (first_steps (accesses_of (seat_at i s).task))
+
+  outcome : took (state_of i no_values) (ready_of i) ≡ succeeded (record {
+    state = record { roll = change s (running (steps (accesses_of (seat_at i s).task))) (roll_of i); ready_line = contents_of line; free_line = free_of i; values = no_values };
+    answer = taken s (seat_at i s).task.kind (seat_at i s).task.name;
+    seat = s;
+  })
+  outcome =
+      took_ready (state_of i no_values) s (contents_of line) (entry_of (seat_at i s) s) first (roll_found i sound.seated s held)
+      (ap (standing_of (accesses_of (seat_at i s).task)) was)
+
+  roll : roll_of (with_record i line s new) ≡ change s (running (steps (accesses_of (seat_at i s).task))) (roll_of i)
+  roll = moved_roll i sound line s new held same_task ∙ ap (λ (st : OnRoll). change s st (roll_of i)) runs
+
+  pub taken_first : Begun i line s new
+  taken_first =
+      let answers : Task → Result (ℕ × ℕ × ℕ) ManagerFault = λ t. Ok (s, t.kind, t.name) in
+      let leaves : Roll → State (Unit {0}) = λ v. record { roll = v; ready_line = contents_of line; free_line = free_of i; values = no_values } in
+      record {
+        answer = λ t shown. ap answers (shown ∙ same_task) ∙ sym (ap take_answer outcome);
+        after = ap leaves roll ∙ sym (ap (left_by (state_of i no_values)) outcome);
+        sound = moved_sound i sound line s new held same_task (ap is_free stands) (ap is_waiting stands ∙ sym (ap is_waiting was))
+            (line_taken i sound.seated s (contents_of line) first line new low refl (ap is_ready stands));
+      }

@@ -1,12 +1,7 @@
 // The manager's fields, as plain structs: the table of seats and all that stands beside it.
 mod enters;
-mod finishes;
 mod leaves;
-mod makes;
-mod steps;
-mod submits;
 mod table;
-mod takes;
 mod wakes;
 
 use acceptance::Acceptance;
@@ -17,17 +12,17 @@ use tracker::Tracker;
 // A record for each of the 256 seats.
 #[derive(Drop)]
 pub struct SeatTable {
-    records: Vec<Seat>,
+    pub(crate) records: Vec<Seat>,
 }
 
 // The seats, the order of acceptance, the two lines of seats, the dependence tables, and the sizes.
 #[derive(Drop)]
 pub struct Inner {
-    table: SeatTable,
-    order: Acceptance,
-    ready: Ring<u8>,
-    free: Ring<u8>,
-    tracker: Tracker,
-    seats: u16,
-    versions: u16,
+    pub(crate) table: SeatTable,
+    pub(crate) order: Acceptance,
+    pub(crate) ready: Ring<u8>,
+    pub(crate) free: Ring<u8>,
+    pub(crate) tracker: Tracker,
+    pub(crate) seats: u16,
+    pub(crate) versions: u16,
 }

@@ -1,5 +1,7 @@
 // The task manager: which task may start, in what order, and which must wait.
+mod makes;
 mod methods;
+mod steps;
 
 ghost use Rattle.manager.specs.Sound.{Sound};
 
@@ -9,5 +11,5 @@ use crate::inner::Inner;
 #[derive(Drop)]
 pub struct Manager {
     inner: Inner,
-    ghost sound: { ∥ Sound inner ∥₁ },
+    ghost sound: { Sound inner },
 }

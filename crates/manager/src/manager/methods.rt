@@ -1,31 +1,20 @@
 // The calls of the manager. The contract of each says that its answer, and the state of the manager and of the host after it, are the
 // outcome of the call on the roll; a refusal changes nothing.
-ghost use Rattle.std.specs.Prelude.{◌≡◌, false, [], is_ok, IfOk};
-ghost use Rattle.roll.specs.Tables.{tables};
-ghost use Rattle.roll.specs.Calls.{submit as submission, take as taking, step as stepping, finish as finishing, perform, numbers};
+ghost use Rattle.std.specs.Prelude.{◌≡◌, false, is_ok};
+ghost use Rattle.roll.specs.Calls.{submit as submission, take as taking, step as stepping, finish as finishing, perform};
 ghost use Rattle.roll.specs.Built.{left_by, take_answer, finish_answer};
-ghost use Rattle.manager.specs.Model.{roll_of, ready_of, free_of, tables_of};
+ghost use Rattle.manager.specs.Model.{tables_of};
 ghost use Rattle.manager.specs.Answers.{submit_answer, step_answer, state_with, setting_with, state_alone, setting_alone};
 
-use crate::inner::Inner;
 use crate::manager::Manager;
+use crate::manager::steps::step_record;
+use admission::check;
 use fault::ManagerFault;
 use host::Host;
-use std::alloc::{AllocError, Global};
-use task::Access;
+use seat::Event;
+use task::{Access, Task};
 
 impl Manager {
-    // A manager with this many seats and version places, at most 256 and 512, and no task; every seat is free, in order of its number.
-    pub fn new(heap: Global, seats: usize, versions: usize) -> Result<Manager, AllocError>
-        ensures tables { IfOk result (λ m. tables_of m.inner ≡ tables seats versions) }
-        ensures roll { IfOk result (λ m. roll_of m.inner ≡ []) }
-        ensures ready { IfOk result (λ m. ready_of m.inner ≡ []) }
-        ensures free { IfOk result (λ m. free_of m.inner ≡ numbers 0 (tables seats versions).seats) }
-    {
-        let inner = Inner::new(heap, seats, versions)?;
-        Ok(Manager { inner })
-    }
-
     // Accepts a task, which gets the first free seat and joins the end of the roll; it is ready if no earlier task conflicts with it.
     // Answers the seat.
     pub fn submit<H: Host>(
@@ -40,20 +29,34 @@ impl Manager {
         ensures tables { tables_of self.new.inner ≡ tables_of self.old.inner }
         ensures refused { is_ok result ≡ false → self.new ≡ self.old }
     {
-        self.inner.submit(host, name, kind, accesses)
+        check(host, accesses)?;
+        let seat = self.inner.seat_for(accesses)?;
+        let task = Task::from_slice(name, kind, accesses)?;
+        self.inner.enter(seat, task);
+        Ok(u16::from(seat))
     }
 
     // The first of the ready line begins to run. Answers its seat, kind and name.
+    // Kept: the answer is a tuple of plain numbers, as a rule of the project has it; `turn` and `dispatch` take it apart by a pattern.
     pub fn take(&mut self) -> Result<(u16, u32, u32), ManagerFault>
         ensures answer { result ≡ take_answer (perform (setting_alone self.old) (state_alone self.old) taking) }
         ensures after { state_alone self.new ≡ left_by (state_alone self.old) (perform (setting_alone self.old) (state_alone self.old) taking) }
         ensures tables { tables_of self.new.inner ≡ tables_of self.old.inner }
         ensures refused { is_ok result ≡ false → self.new ≡ self.old }
     {
-        self.inner.take()
+        let Some(first) = self.inner.ready.pop() else {
+            return Err(ManagerFault::LineEmpty);
+        };
+        let Some(occupant) = self.inner.table.find(usize::from(first)) else {
+            unreachable!()
+        };
+        let _ = occupant.on(Event::Taken);
+        let task = occupant.task();
+        Ok((u16::from(first), task.kind, task.name))
     }
 
     // Does the next step of a running seat on the host. Answers the number of its access, and 0 for a bring or 1 for a put.
+    // Kept: the answer is a tuple of plain numbers, as a rule of the project has it; inside it is a `StepDone`, which `From` turns into it.
     pub fn step<H: Host>(&mut self, host: &mut H, seat: u16) -> Result<(u8, u8), ManagerFault>
         ensures answer { result ≡ step_answer (perform (setting_with self.old (H.Host.fixed host.old)) (state_with self.old (H.Host.values host.old)) (stepping seat)) }
         ensures after { state_with self.new (H.Host.values host.new) ≡ left_by (state_with self.old (H.Host.values host.old)) (perform (setting_with self.old (H.Host.fixed host.old)) (state_with self.old (H.Host.values host.old)) (stepping seat)) }
@@ -62,7 +65,11 @@ impl Manager {
         ensures refused { is_ok result ≡ false → self.new ≡ self.old }
         ensures host { is_ok result ≡ false → host.new ≡ host.old }
     {
-        self.inner.step(host, seat)
+        let Some(occupant) = self.inner.table.find(usize::from(seat)) else {
+            return Err(ManagerFault::NotRunning { seat });
+        };
+        let done = step_record(occupant, host, seat)?;
+        Ok(done.into())
     }
 
     // Takes a running task with no step left off the roll, gives up its seat, and wakes what it alone blocked. Answers how many became
@@ -73,6 +80,8 @@ impl Manager {
         ensures tables { tables_of self.new.inner ≡ tables_of self.old.inner }
         ensures refused { is_ok result ≡ false → self.new ≡ self.old }
     {
-        self.inner.finish(seat)
+        let at = self.inner.finishing(seat)?;
+        let span = self.inner.leave(at);
+        Ok(self.inner.wake(span))
     }
 }

@@ -1,16 +1,26 @@
-use Rattle.manager.proofs.Whole.{sound_of, same_manager}
+use Rattle.std.proofs.Common.{ℕ, Ok, sym, ap, ◌∙◌}
+use Rattle.manager.proofs.Taking.{taken_first}
 use Rattle.manager.proofs.manager.Manager.take.Goals as goal
 
-pub take-requires : goal.take-requires
-take-requires c = sound_of c.args.self.now
+-- the first of the ready line runs
+pub invariant_of-self-2 : goal.invariant_of-self-2
+invariant_of-self-2 c =
+    let m = c.args.self.now in
+    let begun = taken_first m.inner m.sound c.pop.new.self c.from.result c.in-Some-find.occupant.now c.on.new.self (rw c.from.ensures c.in-Some.ensures.cases)
+    c.in-Some-find.ensures.follows_facts.1 c.on.ensures.task c.on.ensures.standing in
+    record { sound = begun.sound }
 
-pub invariant_of-self : goal.invariant_of-self
-invariant_of-self c = record { sound = ∣ c.take.ensures.sound ∣₁ }
+pub returns-clause-answer : goal.returns-clause-answer
+returns-clause-answer c =
+    let m = c.args.self.now in
+    let begun = taken_first m.inner m.sound c.pop.new.self c.from.result c.in-Some-find.occupant.now c.on.new.self (rw c.from.ensures c.in-Some.ensures.cases)
+    c.in-Some-find.ensures.follows_facts.1 c.on.ensures.task c.on.ensures.standing in
+    let task = c.task-task.result.now in
+    ap (λ (s : ℕ). Ok (s, task.kind, task.name)) (c.from-2.ensures ∙ sym c.from.ensures) ∙ begun.answer task c.task-task.ensures
 
-pub returns : goal.returns
-returns c = record {
-  answer = c.take.ensures.answer;
-  after = c.take.ensures.after;
-  tables = c.take.ensures.tables;
-  refused = λ e. same_manager c.take.new.self c.args.self.now.inner _ _ (c.take.ensures.refused e);
-}
+pub returns-clause-after : goal.returns-clause-after
+returns-clause-after c =
+    let m = c.args.self.now in
+    let begun = taken_first m.inner m.sound c.pop.new.self c.from.result c.in-Some-find.occupant.now c.on.new.self (rw c.from.ensures c.in-Some.ensures.cases)
+    c.in-Some-find.ensures.follows_facts.1 c.on.ensures.task c.on.ensures.standing in
+    begun.after

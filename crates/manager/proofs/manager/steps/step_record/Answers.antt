@@ -10,7 +10,7 @@ use Rattle.seat.specs.Phases.{standing_of, next_of}
 use Rattle.manager.specs.Model.{entry_of}
 use Rattle.manager.specs.Stepped.{stepped_answer, stepped_standing, stepped_values}
 use Rattle.manager.proofs.Stepping.{bring_next, put_next}
-use Rattle.manager.proofs.inner.steps.step_record.Goals as goal
+use Rattle.manager.proofs.manager.steps.step_record.Goals as goal
 
 -- the next step is a bring
 pub returns-in-Some-Bring : goal.returns-in-Some-Bring

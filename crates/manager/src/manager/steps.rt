@@ -1,48 +1,39 @@
 // Doing the next step of a running seat.
 ghost use Rattle.std.specs.Prelude.{◌≡◌, false, is_ok};
-ghost use Rattle.roll.specs.Calls.{step as stepping, perform};
-ghost use Rattle.roll.specs.Built.{left_by};
 ghost use Rattle.task.specs.Task.{accesses_of};
 ghost use Rattle.seat.specs.Phases.{standing_of};
-ghost use Rattle.manager.specs.Model.{tables_of, state_of, setting_of, entry_of};
-ghost use Rattle.manager.specs.Answers.{step_answer};
-ghost use Rattle.manager.specs.Stepped.{stepped_answer, stepped_standing, stepped_values};
-ghost use Rattle.manager.specs.Sound.{Sound};
+ghost use Rattle.manager.specs.Model.{entry_of};
+ghost use Rattle.manager.specs.Stepped.{numbers_of, stepped_answer, stepped_standing, stepped_values};
 
-use crate::inner::Inner;
 use fault::ManagerFault;
 use host::Host;
 use seat::{Event, NextStep, Seat, Standing};
 
-impl Inner {
-    // Does the next step of a running seat on the host. Answers the number of its access, and 0 for a bring or 1 for a put.
-    pub(crate) fn step<H: Host>(
-        &mut self,
-        host: &mut H,
-        seat: u16,
-    ) -> Result<(u8, u8), ManagerFault>
-        requires { Sound self.old }
-        ensures answer { result ≡ step_answer (perform (setting_of self.old (H.Host.fixed host.old)) (state_of self.old (H.Host.values host.old)) (stepping seat)) }
-        ensures after { state_of self.new (H.Host.values host.new) ≡ left_by (state_of self.old (H.Host.values host.old)) (perform (setting_of self.old (H.Host.fixed host.old)) (state_of self.old (H.Host.values host.old)) (stepping seat)) }
-        ensures fixed { H.Host.fixed host.new ≡ H.Host.fixed host.old }
-        ensures tables { tables_of self.new ≡ tables_of self.old }
-        ensures refused { is_ok result ≡ false → self.new ≡ self.old }
-        ensures host { is_ok result ≡ false → host.new ≡ host.old }
-        ensures sound { Sound self.new }
-    {
-        match self.table.find(seat as usize) {
-            Some(occupant) => step_record(occupant, host, seat),
-            None => Err(ManagerFault::NotRunning { seat }),
+// What a step did: it brought the value of this access of the task, or put it.
+#[derive(Clone, Copy, PartialEq, Eq, Debug)]
+pub(crate) enum StepDone {
+    Brought { access: u8 },
+    Put { access: u8 },
+}
+
+// As two plain numbers: that of the access, and 0 for a bring or 1 for a put.
+impl From<StepDone> for (u8, u8) {
+    ghost from_gives = { λ done numbers. numbers ≡ numbers_of done };
+
+    fn from(done: StepDone) -> (u8, u8) {
+        match done {
+            StepDone::Brought { access } => (access, 0),
+            StepDone::Put { access } => (access, 1),
         }
     }
 }
 
 // Does the next step of a seat, by its occupant.
-fn step_record<H: Host>(
+pub(crate) fn step_record<H: Host>(
     occupant: &mut Seat,
     host: &mut H,
     seat: u16,
-) -> Result<(u8, u8), ManagerFault>
+) -> Result<StepDone, ManagerFault>
     ensures answer { result ≡ stepped_answer seat (entry_of occupant.old seat).standing }
     ensures standing { (entry_of occupant.new seat).standing ≡ stepped_standing (entry_of occupant.old seat).standing }
     ensures task { occupant.new.task ≡ occupant.old.task }
@@ -61,7 +52,7 @@ fn step_record<H: Host>(
         ) => {
             host.bring(address, seat, position);
             let _ = occupant.on(Event::Stepped);
-            Ok((access, 0))
+            Ok(StepDone::Brought { access })
         }
         Some(
             NextStep::Put {
@@ -73,7 +64,7 @@ fn step_record<H: Host>(
             let kind = occupant.task().kind;
             host.put(kind, access, brought, seat, address);
             let _ = occupant.on(Event::Stepped);
-            Ok((access, 1))
+            Ok(StepDone::Put { access })
         }
         None => match occupant.standing() {
             Standing::Running(_) => Err(ManagerFault::NoStepLeft { seat }),

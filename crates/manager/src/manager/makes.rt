@@ -1,12 +1,12 @@
-// Making the tables.
+// Making a manager.
 ghost use Rattle.std.specs.Prelude.{◌≡◌, ◌≤◌, [], IfOk};
 ghost use Rattle.ring.specs.Model.{contents_of};
 ghost use Rattle.roll.specs.Tables.{tables};
 ghost use Rattle.roll.specs.Calls.{numbers};
 ghost use Rattle.manager.specs.Model.{roll_of, ready_of, free_of, tables_of};
-ghost use Rattle.manager.specs.Sound.{Sound};
 
 use crate::inner::{Inner, SeatTable};
+use crate::manager::Manager;
 use acceptance::Acceptance;
 use ring::Ring;
 use seat::Seat;
@@ -18,17 +18,16 @@ const MOST_SEATS: usize = 256;
 
 const MOST_VERSIONS: usize = 512;
 
-impl Inner {
-    // No task, and every seat free, in order of its number.
-    pub(crate) fn new(heap: Global, seats: usize, versions: usize) -> Result<Inner, AllocError>
-        ensures tables { IfOk result (λ i. tables_of i ≡ tables seats versions) }
-        ensures roll { IfOk result (λ i. roll_of i ≡ []) }
-        ensures ready { IfOk result (λ i. ready_of i ≡ []) }
-        ensures free { IfOk result (λ i. free_of i ≡ numbers 0 (tables seats versions).seats) }
-        ensures sound { IfOk result (λ i. Sound i) }
+impl Manager {
+    // A manager with this many seats and version places, at most 256 and 512, and no task; every seat is free, in order of its number.
+    pub fn new(heap: Global, seats: usize, versions: usize) -> Result<Manager, AllocError>
+        ensures tables { IfOk result (λ m. tables_of m.inner ≡ tables seats versions) }
+        ensures roll { IfOk result (λ m. roll_of m.inner ≡ []) }
+        ensures ready { IfOk result (λ m. ready_of m.inner ≡ []) }
+        ensures free { IfOk result (λ m. free_of m.inner ≡ numbers 0 (tables seats versions).seats) }
     {
         let most = seats.min(MOST_SEATS) as u16;
-        Ok(Inner {
+        let inner = Inner {
             table: SeatTable {
                 records: vec![in heap; Seat::free(); MOST_SEATS]?,
             },
@@ -38,7 +37,8 @@ impl Inner {
             tracker: Tracker::new(heap)?,
             seats: most,
             versions: versions.min(MOST_VERSIONS) as u16,
-        })
+        };
+        Ok(Manager { inner })
     }
 }
 

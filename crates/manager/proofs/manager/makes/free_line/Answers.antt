@@ -2,7 +2,7 @@ use Rattle.std.proofs.Common.{◌≡◌, true, [], ◌∷◌, ◌++◌, length, 
 use Rattle.std.proofs.lemmas.Bool.{lt-ltb}
 use Rattle.ring.specs.Model.{contents_of}
 use Rattle.manager.proofs.Made.{numbers_push, length_numbers}
-use Rattle.manager.proofs.inner.makes.free_line.Goals as goal
+use Rattle.manager.proofs.manager.makes.free_line.Goals as goal
 
 -- the next seat goes in at the end
 pub loop-seat-preserved : goal.loop-seat-preserved
