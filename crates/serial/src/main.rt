@@ -2,8 +2,7 @@
 #![tactic(auto)]
 
 use serial_run::MAX_INPUT;
-use std::env;
-use std::io::Read;
+use stream_program::serve;
 
 const HELP: &str = "usage: serial < MESSAGES
 
@@ -14,20 +13,8 @@ Then says whether there were more bytes, how the stream ended, and which stamps 
 docs/MESSAGES.md has the bytes of a message, docs/REFUSALS.md the numbers of what is refused.";
 
 fn main(rt: HostRuntime) -> anyhow::Result<()> {
-    serve(&rt)
-}
-
-// Prints the help where there is an argument, and else the report of what standard input holds.
-fn serve(rt: &HostRuntime) -> anyhow::Result<()> {
-    if env::args(rt)?.count() > 1 {
-        rt.println(HELP)?;
-        return Ok(());
-    }
-    let mut bytes = Vec::new(rt.alloc());
-    rt.stdin()
-        .take(MAX_INPUT as u64 + 1)
-        .read_to_end(&mut bytes)?;
-    let report = serial_run::run(rt.alloc(), bytes.as_slice())?;
-    print!(rt; "{report}")?;
-    Ok(())
+    // One byte more than is looked at, so that the report can say that there were more.
+    serve(&rt, HELP, MAX_INPUT as u64 + 1, |bytes| {
+        serial_run::run(rt.alloc(), bytes)
+    })
 }

@@ -1,0 +1,3 @@
+pub mod Hexadecimal
+pub mod Stamps
+pub mod Words

@@ -1,0 +1,8 @@
+-- When two hosts hold the same stamps. Assumes nothing.
+use Rattle.std.specs.Prelude.{◌≡◌, ℕ, ◌<◌}
+use Rattle.stamp_host.specs.declared.StampHost.{StampHost}
+use Rattle.stamp_host.specs.Stamps.{count_of, values_of}
+
+-- they have as many stamps, and the same stamp at each address
+abbrev pub SameStamps : StampHost → StampHost → Type 0
+SameStamps one other = (count_of one ≡ count_of other) × ((a : ℕ) → a < count_of one → (values_of one).at a ≡ (values_of other).at a)
