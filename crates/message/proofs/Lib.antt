@@ -2,3 +2,4 @@ mod Bytes
 mod Numbers
 mod Prefix
 mod Header
+mod Steps

@@ -23,30 +23,33 @@ number_short w k at bytes short =
     rw t
 
 -- what two, four and eight bytes write
-pub value2 : (xs : List ℕ) → get_or xs 0 0 + get_or xs 1 0 * 256 ≡ value (take 2 xs)
-value2 [] = omega arith
-value2 (a ∷ []) = omega arith
-value2 (a ∷ b ∷ xs) = omega arith
+pub value2 : (xs : List ℕ) → length xs ≡ 2 → get_or xs 0 0 + get_or xs 1 0 * 256 ≡ value xs
+value2 [] long = omega arith
+value2 (a ∷ []) long = omega arith
+value2 (a ∷ b ∷ []) long = omega arith
+value2 (a ∷ b ∷ c ∷ xs) long = omega arith
 
-pub value4 : (xs : List ℕ) → get_or xs 0 0 + get_or xs 1 0 * 256 + get_or xs 2 0 * 65536 + get_or xs 3 0 * 16777216 ≡ value (take 4 xs)
-value4 [] = omega arith
-value4 (a ∷ []) = omega arith
-value4 (a ∷ b ∷ []) = omega arith
-value4 (a ∷ b ∷ c ∷ []) = omega arith
-value4 (a ∷ b ∷ c ∷ d ∷ xs) = omega arith
+pub value4 : (xs : List ℕ) → length xs ≡ 4 → get_or xs 0 0 + get_or xs 1 0 * 256 + get_or xs 2 0 * 65536 + get_or xs 3 0 * 16777216 ≡ value xs
+value4 [] long = omega arith
+value4 (a ∷ []) long = omega arith
+value4 (a ∷ b ∷ []) long = omega arith
+value4 (a ∷ b ∷ c ∷ []) long = omega arith
+value4 (a ∷ b ∷ c ∷ d ∷ []) long = omega arith
+value4 (a ∷ b ∷ c ∷ d ∷ e ∷ xs) long = omega arith
 
-pub value8 : (xs : List ℕ) →
+pub value8 : (xs : List ℕ) → length xs ≡ 8 →
     get_or xs 0 0 + get_or xs 1 0 * 256 + get_or xs 2 0 * 65536 + get_or xs 3 0 * 16777216 + get_or xs 4 0 * 4294967296 + get_or xs 5 0 * 1099511627776 + get_or xs 6 0 * 281474976710656 + get_or xs 7 0 * 72057594037927936
-    ≡ value (take 8 xs)
-value8 [] = omega arith
-value8 (a ∷ []) = omega arith
-value8 (a ∷ b ∷ []) = omega arith
-value8 (a ∷ b ∷ c ∷ []) = omega arith
-value8 (a ∷ b ∷ c ∷ d ∷ []) = omega arith
-value8 (a ∷ b ∷ c ∷ d ∷ e ∷ []) = omega arith
-value8 (a ∷ b ∷ c ∷ d ∷ e ∷ f ∷ []) = omega arith
-value8 (a ∷ b ∷ c ∷ d ∷ e ∷ f ∷ g ∷ []) = omega arith
-value8 (a ∷ b ∷ c ∷ d ∷ e ∷ f ∷ g ∷ h ∷ xs) = omega arith
+    ≡ value xs
+value8 [] long = omega arith
+value8 (a ∷ []) long = omega arith
+value8 (a ∷ b ∷ []) long = omega arith
+value8 (a ∷ b ∷ c ∷ []) long = omega arith
+value8 (a ∷ b ∷ c ∷ d ∷ []) long = omega arith
+value8 (a ∷ b ∷ c ∷ d ∷ e ∷ []) long = omega arith
+value8 (a ∷ b ∷ c ∷ d ∷ e ∷ f ∷ []) long = omega arith
+value8 (a ∷ b ∷ c ∷ d ∷ e ∷ f ∷ g ∷ []) long = omega arith
+value8 (a ∷ b ∷ c ∷ d ∷ e ∷ f ∷ g ∷ h ∷ []) long = omega arith
+value8 (a ∷ b ∷ c ∷ d ∷ e ∷ f ∷ g ∷ h ∷ i ∷ xs) long = omega arith
 
 -- the byte at a place, and those behind it
 pub byte_there : (at : ℕ) (bytes : List ℕ) → at < length bytes → drop at bytes ≡ get_or (take (length bytes - at) (drop at bytes)) 0 0 ∷ drop (at + 1) bytes
