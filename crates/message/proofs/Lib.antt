@@ -1,5 +1,5 @@
 mod Bytes
 mod Numbers
 mod Prefix
-mod Header
+mod Widths
 mod Steps

@@ -1,5 +1,5 @@
 -- A message from its fields: what is read of the whole once its fields were read. Assumes nothing.
-use Rattle.std.proofs.Common.{◌≡◌, ℕ, ◌+◌, ◌-◌, ◌*◌, ◌≤◌, false, nat_lt, List, ◌∷◌, length, drop, Ok, Err, Result, IfOk, ap, ◌∙◌, arith}
+use Rattle.std.proofs.Common.{◌≡◌, ℕ, ◌+◌, ◌-◌, ◌*◌, false, nat_lt, List, ◌∷◌, length, drop, Ok, Err, Result, IfOk, ap, ◌∙◌, arith}
 use Rattle.fault.specs.declared.StreamFault.{StreamFault}
 use Rattle.task.specs.declared.Access.{Access}
 use Rattle.task.specs.declared.tasks.Task.{Task}

@@ -52,7 +52,6 @@ impl<'a> Fields<'a> {
 
     // The next field, of N bytes. The place moves behind it; or it reaches beyond the end, and the place stays.
     fn field<const N: usize>(&mut self) -> Result<[u8; N], StreamFault>
-        ensures reference { self.new.place.ghost_name ≡ self.old.place.ghost_name }
         ensures same { SameMessage self.old self.new }
         ensures read { FieldRead (number N) value N self.old.bytes.now self.old.start self.old.place.now.at result self.new.place.now.at }
     {
@@ -66,7 +65,6 @@ impl<'a> Fields<'a> {
 
     // A direction. The place moves behind it; or it is refused, and the place stays.
     fn direction(&mut self) -> Result<Direction, StreamFault>
-        ensures reference { self.new.place.ghost_name ≡ self.old.place.ghost_name }
         ensures same { SameMessage self.old self.new }
         ensures read { FieldRead direction_at (λ d. d) 1 self.old.bytes.now self.old.start self.old.place.now.at result self.new.place.now.at }
     {
@@ -100,25 +98,23 @@ impl<'a> Fields<'a> {
     // The kind of the message, whose version is known. The place moves behind the two.
     fn header(&mut self) -> Result<Kind, StreamFault>
         requires { self.old.place.now.at < length self.old.bytes.now }
-        ensures reference { self.new.place.ghost_name ≡ self.old.place.ghost_name }
         ensures same { SameMessage self.old self.new }
         ensures read { HeaderRead self.old.bytes.now self.old.place.now.at result self.new.place.now.at }
     {
-        let [version, kind, ..] = &self.bytes[self.place.at..] else {
+        let [version, kind, rest @ ..] = &self.bytes[self.place.at..] else {
             return Err(one_byte(self.bytes[self.place.at]));
         };
         if *version != VERSION {
             return Err(StreamFault::UnknownVersion { found: *version });
         }
         let kind = Kind::try_from(*kind)?;
-        self.place.at += 2;
+        self.place.at = self.bytes.len() - rest.len();
         Ok(kind)
     }
 
     // The addresses, of which there are n.
     fn addresses(&mut self, n: usize) -> Result<[u64; MAX_ACCESSES], StreamFault>
         requires { n ≤ max_accesses }
-        ensures reference { self.new.place.ghost_name ≡ self.old.place.ghost_name }
         ensures same { SameMessage self.old self.new }
         ensures read { ListRead (addresses n) (take n) (8 * n) self.old.bytes.now self.old.start self.old.place.now.at result self.new.place.now.at }
     {
@@ -133,7 +129,6 @@ impl<'a> Fields<'a> {
     fn directions(&mut self, list: &[u64], mut task: Task) -> Result<Task, StreamFault>
         requires few { length list.now ≤ max_accesses }
         requires empty { accesses_of task ≡ [] }
-        ensures reference { self.new.place.ghost_name ≡ self.old.place.ghost_name }
         ensures same { SameMessage self.old self.new }
         ensures kept { IfOk result (λ t. (t.name ≡ task.name) × (t.kind ≡ task.kind) × (length (accesses_of t) ≡ length list.now)) }
         ensures read { ListRead (directions list.now) accesses_of (length list.now) self.old.bytes.now self.old.start self.old.place.now.at result self.new.place.now.at }
@@ -152,7 +147,6 @@ impl<'a> Fields<'a> {
     // A submission, behind its first two bytes.
     fn submission(&mut self) -> Result<Task, StreamFault>
         requires { self.old.place.now.at ≡ self.old.start + 2 }
-        ensures reference { self.new.place.ghost_name ≡ self.old.place.ghost_name }
         ensures same { SameMessage self.old self.new }
         ensures read { BodyRead submission submitted submission_width self.old.bytes.now self.old.place.now.at result self.new.place.now.at }
     {

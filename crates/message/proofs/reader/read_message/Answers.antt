@@ -1,4 +1,4 @@
-use Rattle.std.proofs.Common.{◌≡◌, length, drop, Ok, ap, ◌∙◌, rules}
+use Rattle.std.proofs.Common.{◌≡◌, Ok, ◌∙◌, rules}
 use Rattle.message.specs.Contents.{contents_of, message_width, BodyRead}
 use Rattle.layout.specs.Reading.{read}
 use Rattle.message.proofs.Bytes.{bytes_from}

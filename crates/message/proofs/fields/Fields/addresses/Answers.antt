@@ -1,7 +1,7 @@
-use Rattle.std.proofs.Common.{◌≡◌, ℕ, suc, ◌+◌, ◌-◌, ◌<◌, ◌≤◌, List, ◌++◌, length, take, drop, set, Ok, sym, ap, ◌∙◌, arith, rules, length-set}
+use Rattle.std.proofs.Common.{◌≡◌, ℕ, suc, ◌+◌, ◌-◌, ◌<◌, ◌≤◌, List, length, take, drop, set, Ok, sym, ap, ◌∙◌, arith, rules, length-set}
 use Rattle.std.proofs.lemmas.List.{take_more_set, take-append-le}
 use Rattle.std.proofs.lemmas.Result.{err_from_is_err_and}
-use Rattle.layout.specs.Reading.{value, number, addresses}
+use Rattle.layout.specs.Reading.{number, addresses}
 use Rattle.message.proofs.Numbers.{value8}
 use Rattle.message.proofs.Prefix.{prefixed, prefixed_all, addresses_more, addresses_fault}
 use Rattle.message.proofs.fields.Fields.addresses.Goals as goal
@@ -40,11 +40,10 @@ loop-slot-preserved c =
     record {
       ends = c.loop-slot.invariant.ends;
       long = length-set items i a ∙ c.loop-slot.invariant.long;
-      reference = c.field.ensures.reference ∙ c.loop-slot.invariant.reference;
       same = search rules;
       moved = omega arith;
       read =
-          rw (c.field.ensures.same.0, c.field.ensures.same.1)
+          rw (c.field.ensures.same.1, c.field.ensures.same.2)
           (c.loop-slot.invariant.read ∙ ap (λ (m : ℕ). prefixed (take i items) (addresses m k (drop at bytes))) left
           ∙ addresses_more (take i items) (n - i - 1) k (drop at bytes) (drop next bytes) a is
           ∙ ap (λ (xs : List ℕ). prefixed xs (addresses (n - i - 1) (k + 8) (drop next bytes))) (sym (take_more_set items i a room))
@@ -63,14 +62,13 @@ returns c =
     let none : n - i ≡ 0 = omega arith in
     let le : n ≤ length items = omega arith in
     record {
-      reference = c.loop-slot.invariant.reference;
       same = c.loop-slot.invariant.same;
       read = (
         rw take-append-le
             (c.loop-slot.invariant.read ∙ ap (λ (m : ℕ). prefixed (take i items) (addresses m (at - c.loop-slot.self.start) bs)) none
             ∙ prefixed_all (take i items) bs ∙ ap (λ (m : ℕ). Ok (take m items, bs)) all
-            ∙ ap (λ (b : List ℕ). Ok (take n items, drop at b)) c.loop-slot.invariant.same.0),
+            ∙ ap (λ (b : List ℕ). Ok (take n items, drop at b)) c.loop-slot.invariant.same.1),
         omega arith,
-        omega (arith, c.loop-slot.self.inside, ap length c.loop-slot.invariant.same.0),
+        omega (arith, c.loop-slot.self.inside, ap length c.loop-slot.invariant.same.1),
       );
     }

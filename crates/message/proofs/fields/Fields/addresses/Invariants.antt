@@ -9,7 +9,6 @@ abbrev pub invariant-loop-slot : goal.invariant-loop-slot
 invariant-loop-slot l = record {
   ends : l.slot-index-end ≡ l.n;
   long : length l.slot-items ≡ l.n;
-  reference : l.self.place.ghost_name ≡ l.initial.self.place.ghost_name;
   same : SameMessage l.initial.self l.self;
   moved : l.self.place.now.at ≡ l.initial.self.place.now.at + 8 * l.slot-index;
   read : addresses l.n (l.initial.self.place.now.at - l.initial.self.start) (drop l.initial.self.place.now.at l.initial.self.bytes.now)

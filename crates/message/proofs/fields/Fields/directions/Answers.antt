@@ -35,14 +35,13 @@ loop-address-preserved c =
     let moved : next ≡ at + 1 = c.in_ok-direction.ensures.read.1 in
     let on : k + 1 ≡ next - c.loop-address.self.start = omega arith in
     record {
-      reference = c.direction.ensures.reference ∙ c.loop-address.invariant.reference;
       same = search rules;
       moved = omega arith;
       count = ap length pushed ∙ simp length-append (omega arith);
       name = c.push.ensures.name ∙ c.loop-address.invariant.name;
       kind = c.push.ensures.kind ∙ c.loop-address.invariant.kind;
       read =
-          rw (c.direction.ensures.same.0, c.direction.ensures.same.1)
+          rw (c.direction.ensures.same.1, c.direction.ensures.same.2)
           (c.loop-address.invariant.read ∙ ap (λ (l : List ℕ). prefixed xs (directions l k (drop at bytes))) (drop-cons list i 0 c.loop-address-test.true)
           ∙ directions_more xs (get_or list i 0) (drop (suc i) list) k (drop at bytes) (drop next bytes) _ c.in_ok-direction.ensures.read.0
           ∙ ap (λ (ys : List Access). prefixed ys (directions (drop (suc i) list) (k + 1) (drop next bytes))) (sym pushed)
@@ -58,13 +57,12 @@ returns c =
     let at = c.loop-address.self.place.now.at in
     let bs = drop at c.loop-address.self.bytes.now in
     record {
-      reference = c.loop-address.invariant.reference;
       same = c.loop-address.invariant.same;
       kept = (c.loop-address.invariant.name, c.loop-address.invariant.kind, omega arith);
       read = (
         c.loop-address.invariant.read ∙ ap (λ (l : List ℕ). prefixed xs (directions l (at - c.loop-address.self.start) bs)) (drop_all i list c.loop-address-test.false)
-            ∙ prefixed_all xs bs ∙ ap (λ (b : List ℕ). Ok (xs, drop at b)) c.loop-address.invariant.same.0,
+            ∙ prefixed_all xs bs ∙ ap (λ (b : List ℕ). Ok (xs, drop at b)) c.loop-address.invariant.same.1,
         omega arith,
-        omega (arith, c.loop-address.self.inside, ap length c.loop-address.invariant.same.0),
+        omega (arith, c.loop-address.self.inside, ap length c.loop-address.invariant.same.1),
       );
     }

@@ -8,7 +8,6 @@ use Rattle.message.proofs.fields.Fields.directions.Given as goal
 -- all directions come to those read so far and those that are left
 abbrev pub invariant-loop-address : goal.invariant-loop-address
 invariant-loop-address l = record {
-  reference : l.self.place.ghost_name ≡ l.initial.self.place.ghost_name;
   same : SameMessage l.initial.self l.self;
   moved : l.self.place.now.at ≡ l.initial.self.place.now.at + l.address-index;
   count : length (accesses_of l.task) ≡ l.address-index;

@@ -2,7 +2,7 @@ use Rattle.std.proofs.Common.{◌≡◌, ◌*◌, ◌++◌, length, drop, Ok, sy
 use Rattle.task.specs.Task.{accesses_of}
 use Rattle.layout.specs.Layout.{submits, finishes, address_bytes, direction_bytes}
 use Rattle.layout.specs.Reading.{value, number, submission, read}
-use Rattle.message.proofs.Header.{length_lists}
+use Rattle.message.proofs.Widths.{length_lists}
 use Rattle.message.proofs.Numbers.{value2}
 use Rattle.message.proofs.Steps.{read_submission, read_notice, number_same}
 use Rattle.message.proofs.fields.Fields.message.Goals as goal
@@ -17,11 +17,11 @@ returns-in_ok-submission-in-Submission c =
     let after = c.submission.new.self.place.now.at in
     let long : length (address_bytes xs ++ direction_bytes xs) ≡ 9 * length xs = length_lists xs in
     let head = rw c.in-Submission.is at c.in_ok-header.ensures.read.0 in
-    let body : submission (drop behind bytes) ≡ Ok (submits task.name task.kind xs, drop after bytes) = rw c.header.ensures.same.0 at c.in_ok-submission-in-Submission.ensures.read.0 in
+    let body : submission (drop behind bytes) ≡ Ok (submits task.name task.kind xs, drop after bytes) = rw c.header.ensures.same.1 at c.in_ok-submission-in-Submission.ensures.read.0 in
     let is : read at (drop at bytes) ≡ Ok (submits task.name task.kind xs, drop after bytes) =
     read_submission at (drop at bytes) (drop behind bytes) (drop after bytes) (submits task.name task.kind xs) head body in
     record {
-      reference = c.submission.ensures.reference ∙ c.header.ensures.reference;
+      reference = c.submission.ensures.same.0 ∙ c.header.ensures.same.0;
       read = (is, omega (arith, c.in_ok-submission-in-Submission.ensures.read.1, c.in_ok-header.ensures.read.1));
     }
 
@@ -35,9 +35,9 @@ returns-in_ok-field-in-Finish c =
     let head = rw c.in-Finish.is at c.in_ok-header.ensures.read.0 in
     let is_seat : value c.in_ok-field-in-Finish.field-0 ≡ seat = sym (c.from_le_bytes.ensures ∙ value2 c.in_ok-field-in-Finish.field-0 (search rules)) in
     let body : number 2 2 (drop behind bytes) ≡ Ok (seat, drop after bytes) =
-    number_same 2 2 _ behind after _ seat bytes c.header.new.self.bytes.now c.header.ensures.same.0 (omega (arith, c.in_ok-header.ensures.read.1)) is_seat c.in_ok-field-in-Finish.ensures.read.0 in
+    number_same 2 2 _ behind after _ seat bytes c.header.new.self.bytes.now c.header.ensures.same.1 (omega (arith, c.in_ok-header.ensures.read.1)) is_seat c.in_ok-field-in-Finish.ensures.read.0 in
     let is : read at (drop at bytes) ≡ Ok (finishes seat, drop after bytes) = read_notice at seat (drop at bytes) (drop behind bytes) (drop after bytes) head body in
     record {
-      reference = c.field.ensures.reference ∙ c.header.ensures.reference;
+      reference = c.field.ensures.same.0 ∙ c.header.ensures.same.0;
       read = (is, omega (arith, c.in_ok-field-in-Finish.ensures.read.1, c.in_ok-header.ensures.read.1));
     }

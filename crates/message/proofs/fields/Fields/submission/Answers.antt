@@ -1,4 +1,4 @@
-use Rattle.std.proofs.Common.{◌≡◌, ℕ, ◌+◌, ◌-◌, ◌*◌, ◌≤◌, false, nat_lt, List, length, take, drop, Ok, refl, sym, ◌∙◌, arith, length-take, rules}
+use Rattle.std.proofs.Common.{◌≡◌, ◌+◌, ◌*◌, false, nat_lt, length, take, drop, Ok, refl, sym, ◌∙◌, arith, length-take, rules}
 use Rattle.std.proofs.lemmas.Bool.{le-ltb}
 use Rattle.layout.specs.Reading.{value, number, addresses}
 use Rattle.message.proofs.Numbers.{value2, value4}
@@ -16,18 +16,18 @@ returns-clause-read c =
     let at2 = c.field-2.new.self.place.now.at in
     let at3 = c.field-3.new.self.place.now.at in
     let at4 = c.addresses.new.self.place.now.at in
-    let same1 = c.field.ensures.same.0 in
-    let same2 = c.field-2.ensures.same.0 ∙ same1 in
-    let same3 = c.field-3.ensures.same.0 ∙ same2 in
-    let same4 = c.addresses.ensures.same.0 ∙ same3 in
+    let same1 = c.field.ensures.same.1 in
+    let same2 = c.field-2.ensures.same.1 ∙ same1 in
+    let same3 = c.field-3.ensures.same.1 ∙ same2 in
+    let same4 = c.addresses.ensures.same.1 ∙ same3 in
     let m1 : at1 ≡ at + 2 = c.in_ok-field.ensures.read.1 in
     let m2 : at2 ≡ at1 + 4 = c.in_ok-field-2.ensures.read.1 in
     let m3 : at3 ≡ at2 + 4 = c.in_ok-field-3.ensures.read.1 in
     let m4 : at4 ≡ at3 + 8 * n = c.in_ok-list.ensures.read.1 in
-    let s1 = c.field.ensures.same.1 in
-    let s2 = c.field-2.ensures.same.1 in
-    let s3 = c.field-3.ensures.same.1 in
-    let s4 = c.addresses.ensures.same.1 in
+    let s1 = c.field.ensures.same.2 in
+    let s2 = c.field-2.ensures.same.2 in
+    let s3 = c.field-3.ensures.same.2 in
+    let s4 = c.addresses.ensures.same.2 in
     let v1 : value c.in_ok-field.field-0 ≡ n = sym (c.from-n.ensures ∙ c.from_le_bytes-count.ensures ∙ value2 c.in_ok-field.field-0 (search rules)) in
     let v2 : value c.in_ok-field-2.field-0 ≡ name = sym (c.from_le_bytes-name.ensures ∙ value4 c.in_ok-field-2.field-0 (search rules)) in
     let v3 : value c.in_ok-field-3.field-0 ≡ kind = sym (c.from_le_bytes-kind.ensures ∙ value4 c.in_ok-field-3.field-0 (search rules)) in
