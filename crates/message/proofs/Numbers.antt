@@ -1,32 +1,24 @@
--- What the bytes of a number write. Assumes nothing.
-use Rattle.std.proofs.Common.{◌≡◌, ℕ, ◌+◌, ◌*◌, List, [], ◌∷◌, length, get_or, arith}
+-- The number that bytes write, the lowest first, is the sum of what they are worth. Assumes nothing.
+use Rattle.std.proofs.Common.{◌≡◌, ℕ, zero, suc, ◌+◌, ◌*◌, ◌^◌, ◌<◌, List, [], ◌∷◌, ◌++◌, length, get_or, take, ap, ◌∙◌, arith, pow-suc, length-take, take_all}
+use Rattle.std.proofs.Math.Seq.{take-suc}
+use Rattle.std.specs.Int.{sum_through, byte_worth}
 use Rattle.layout.specs.Reading.{value}
 
--- what two, four and eight bytes write
-pub value2 : (xs : List ℕ) → length xs ≡ 2 → get_or xs 0 0 + get_or xs 1 0 * 256 ≡ value xs
-value2 [] long = omega arith
-value2 (a ∷ []) long = omega arith
-value2 (a ∷ b ∷ []) long = omega arith
-value2 (a ∷ b ∷ c ∷ xs) long = omega arith
+-- one byte more, above the others
+value_push : (xs : List ℕ) (b : ℕ) → value (xs ++ (b ∷ [])) ≡ value xs + b * 256 ^ length xs
+value_push [] b = omega arith
+value_push (x ∷ xs) b = let more : value (xs ++ (b ∷ [])) ≡ value xs + b * 256 ^ length xs = value_push xs b in rw pow-suc (grind arith)
 
-pub value4 : (xs : List ℕ) → length xs ≡ 4 → get_or xs 0 0 + get_or xs 1 0 * 256 + get_or xs 2 0 * 65536 + get_or xs 3 0 * 16777216 ≡ value xs
-value4 [] long = omega arith
-value4 (a ∷ []) long = omega arith
-value4 (a ∷ b ∷ []) long = omega arith
-value4 (a ∷ b ∷ c ∷ []) long = omega arith
-value4 (a ∷ b ∷ c ∷ d ∷ []) long = omega arith
-value4 (a ∷ b ∷ c ∷ d ∷ e ∷ xs) long = omega arith
+-- the bytes up to the one at k
+value_through : (xs : List ℕ) (k : ℕ) → k < length xs → sum_through (λ i. byte_worth i (get_or xs i 0)) k ≡ value (take (suc k) xs)
+value_through [] zero lt = absurd (omega arith)
+value_through (x ∷ xs) zero lt = omega arith
+value_through xs (suc k) lt =
+    let before : sum_through (λ i. byte_worth i (get_or xs i 0)) k ≡ value (take (suc k) xs) = value_through xs k (omega arith) in
+    let one : take (suc (suc k)) xs ≡ take (suc k) xs ++ (get_or xs (suc k) 0 ∷ []) = take-suc xs (suc k) 0 lt in
+    let long : length (take (suc k) xs) ≡ suc k = simp length-take (omega arith) in
+    rw (one, value_push, long, before)
 
-pub value8 : (xs : List ℕ) → length xs ≡ 8 →
-    get_or xs 0 0 + get_or xs 1 0 * 256 + get_or xs 2 0 * 65536 + get_or xs 3 0 * 16777216 + get_or xs 4 0 * 4294967296 + get_or xs 5 0 * 1099511627776 + get_or xs 6 0 * 281474976710656 + get_or xs 7 0 * 72057594037927936
-    ≡ value xs
-value8 [] long = omega arith
-value8 (a ∷ []) long = omega arith
-value8 (a ∷ b ∷ []) long = omega arith
-value8 (a ∷ b ∷ c ∷ []) long = omega arith
-value8 (a ∷ b ∷ c ∷ d ∷ []) long = omega arith
-value8 (a ∷ b ∷ c ∷ d ∷ e ∷ []) long = omega arith
-value8 (a ∷ b ∷ c ∷ d ∷ e ∷ f ∷ []) long = omega arith
-value8 (a ∷ b ∷ c ∷ d ∷ e ∷ f ∷ g ∷ []) long = omega arith
-value8 (a ∷ b ∷ c ∷ d ∷ e ∷ f ∷ g ∷ h ∷ []) long = omega arith
-value8 (a ∷ b ∷ c ∷ d ∷ e ∷ f ∷ g ∷ h ∷ i ∷ xs) long = omega arith
+-- all bytes, as `from_le_bytes` reads a number of k + 1 of them
+pub value_all : (k : ℕ) (xs : List ℕ) → length xs ≡ suc k → sum_through (λ i. byte_worth i (get_or xs i 0)) k ≡ value xs
+value_all k xs long = value_through xs k (omega arith) ∙ ap value (take_all (suc k) xs (omega arith))

@@ -2,7 +2,7 @@ use Rattle.std.proofs.Common.{◌≡◌, ℕ, suc, ◌+◌, ◌-◌, ◌<◌, �
 use Rattle.std.proofs.lemmas.List.{take_more_set, take-append-le}
 use Rattle.std.proofs.lemmas.Result.{err_from_is_err_and}
 use Rattle.layout.specs.Reading.{number, addresses}
-use Rattle.message.proofs.Numbers.{value8}
+use Rattle.message.proofs.Numbers.{value_all}
 use Rattle.message.proofs.Prefix.{prefixed, prefixed_all, addresses_more, addresses_fault}
 use Rattle.message.proofs.fields.Fields.addresses.Goals as goal
 
@@ -31,7 +31,7 @@ loop-slot-preserved c =
     let a = c.from_le_bytes.result in
     let long : length c.in_ok-field.field-0 ≡ 8 = search rules in
     let is : number 8 k (drop at bytes) ≡ Ok (a, drop next bytes) =
-    c.in_ok-field.ensures.read.0 ∙ ap (λ (v : ℕ). Ok (v, drop next bytes)) (sym (c.from_le_bytes.ensures ∙ value8 c.in_ok-field.field-0 long)) in
+    c.in_ok-field.ensures.read.0 ∙ ap (λ (v : ℕ). Ok (v, drop next bytes)) (sym (c.from_le_bytes.ensures ∙ value_all 7 c.in_ok-field.field-0 long)) in
     let left : n - i ≡ suc (n - i - 1) = omega arith in
     let moved : next ≡ at + 8 = c.in_ok-field.ensures.read.1 in
     let room : i < length items = omega arith in

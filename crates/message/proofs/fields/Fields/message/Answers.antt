@@ -3,7 +3,7 @@ use Rattle.task.specs.Task.{accesses_of}
 use Rattle.layout.specs.Layout.{submits, finishes, address_bytes, direction_bytes}
 use Rattle.layout.specs.Reading.{value, number, submission, read}
 use Rattle.message.proofs.Widths.{length_lists}
-use Rattle.message.proofs.Numbers.{value2}
+use Rattle.message.proofs.Numbers.{value_all}
 use Rattle.message.proofs.Steps.{read_submission, read_notice, number_same}
 use Rattle.message.proofs.fields.Fields.message.Goals as goal
 
@@ -33,7 +33,7 @@ returns-in_ok-field-in-Finish c =
     let behind = c.header.new.self.place.now.at in
     let after = c.field.new.self.place.now.at in
     let head = rw c.in-Finish.is at c.in_ok-header.ensures.read.0 in
-    let is_seat : value c.in_ok-field-in-Finish.field-0 ≡ seat = sym (c.from_le_bytes.ensures ∙ value2 c.in_ok-field-in-Finish.field-0 (search rules)) in
+    let is_seat : value c.in_ok-field-in-Finish.field-0 ≡ seat = sym (c.from_le_bytes.ensures ∙ value_all 1 c.in_ok-field-in-Finish.field-0 (search rules)) in
     let body : number 2 2 (drop behind bytes) ≡ Ok (seat, drop after bytes) =
     number_same 2 2 _ behind after _ seat bytes c.header.new.self.bytes.now c.header.ensures.same.1 (omega (arith, c.in_ok-header.ensures.read.1)) is_seat c.in_ok-field-in-Finish.ensures.read.0 in
     let is : read at (drop at bytes) ≡ Ok (finishes seat, drop after bytes) = read_notice at seat (drop at bytes) (drop behind bytes) (drop after bytes) head body in

@@ -1,7 +1,7 @@
 use Rattle.std.proofs.Common.{◌≡◌, ◌+◌, ◌*◌, false, nat_lt, length, take, drop, Ok, refl, sym, ◌∙◌, arith, length-take, rules}
 use Rattle.std.proofs.lemmas.Bool.{le-ltb}
 use Rattle.layout.specs.Reading.{value, number, addresses}
-use Rattle.message.proofs.Numbers.{value2, value4}
+use Rattle.message.proofs.Numbers.{value_all}
 use Rattle.message.proofs.Steps.{number_same, addresses_same, submission_steps, submission_read}
 use Rattle.message.proofs.fields.Fields.submission.Goals as goal
 
@@ -28,9 +28,9 @@ returns-clause-read c =
     let s2 = c.field-2.ensures.same.2 in
     let s3 = c.field-3.ensures.same.2 in
     let s4 = c.addresses.ensures.same.2 in
-    let v1 : value c.in_ok-field.field-0 ≡ n = sym (c.from-n.ensures ∙ c.from_le_bytes-count.ensures ∙ value2 c.in_ok-field.field-0 (search rules)) in
-    let v2 : value c.in_ok-field-2.field-0 ≡ name = sym (c.from_le_bytes-name.ensures ∙ value4 c.in_ok-field-2.field-0 (search rules)) in
-    let v3 : value c.in_ok-field-3.field-0 ≡ kind = sym (c.from_le_bytes-kind.ensures ∙ value4 c.in_ok-field-3.field-0 (search rules)) in
+    let v1 : value c.in_ok-field.field-0 ≡ n = sym (c.from-n.ensures ∙ c.from_le_bytes-count.ensures ∙ value_all 1 c.in_ok-field.field-0 (search rules)) in
+    let v2 : value c.in_ok-field-2.field-0 ≡ name = sym (c.from_le_bytes-name.ensures ∙ value_all 3 c.in_ok-field-2.field-0 (search rules)) in
+    let v3 : value c.in_ok-field-3.field-0 ≡ kind = sym (c.from_le_bytes-kind.ensures ∙ value_all 3 c.in_ok-field-3.field-0 (search rules)) in
     let e1 : number 2 2 (drop at bytes) ≡ Ok (n, drop at1 bytes) = number_same 2 2 _ at at1 _ n bytes bytes refl (omega arith) v1 c.in_ok-field.ensures.read.0 in
     let e2 : number 4 4 (drop at1 bytes) ≡ Ok (name, drop at2 bytes) = number_same 4 4 _ at1 at2 _ name bytes _ same1 (omega arith) v2 c.in_ok-field-2.ensures.read.0 in
     let e3 : number 4 8 (drop at2 bytes) ≡ Ok (kind, drop at3 bytes) = number_same 4 8 _ at2 at3 _ kind bytes _ same2 (omega arith) v3 c.in_ok-field-3.ensures.read.0 in
