@@ -104,7 +104,7 @@ module _ {V : Type 0} (m : Setting V) (b : State V) (place : ℕ) (read : Read C
       (ap by_cause made.0 ∙ caused place x (perform m b (asked x)), made.1, moved ∙ moves place x (perform m b (asked x)) fed made.0)
 
 -- the place beside the cause
-abbrev with_place : ℕ → Result Fed Cause → Result Fed FeedFault
+abbrev pub with_place : ℕ → Result Fed Cause → Result Fed FeedFault
 with_place place (Ok fed) = Ok fed
 with_place place (Err cause) = Err (record { place = place; cause = cause })
 

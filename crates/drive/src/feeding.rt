@@ -29,10 +29,10 @@ pub fn feed<H: Host>(
     ensures refused { is_ok result ≡ false → manager.new ≡ manager.old }
 {
     let place = reader.place.at;
-    match feed_next(manager, host, reader.bytes, &mut reader.place) {
-        Ok(fed) => Ok(fed),
-        Err(cause) => Err(FeedFault { place, cause }),
-    }
+    feed_next(manager, host, reader.bytes, &mut reader.place).map_err(|cause| FeedFault {
+        place,
+        cause,
+    })
 }
 
 // Reads the message at the place, which moves behind it, and makes its call; or says why not, and the place stays.
@@ -48,15 +48,10 @@ fn feed_next<H: Host>(
     ensures place { place.new.at ≡ fed_place (setting_with manager.old (H.Host.fixed host.now)) (state_with manager.old (H.Host.values host.now)) bytes.now place.old.at }
     ensures refused { is_ok result ≡ false → manager.new ≡ manager.old }
 {
-    let old = place.at;
-    let mut guard = PlaceGuard {
-        place,
-        old,
-        accepted: false,
-    };
+    let mut guard = PlaceGuard::new(place);
     let message = read_message(bytes, guard.place)?;
     let fed = ask(manager, host, message)?;
-    guard.accepted = true;
+    guard.accept();
     Ok(fed)
 }
 

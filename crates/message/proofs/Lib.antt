@@ -1,4 +1,5 @@
 mod Bytes
 mod Numbers
 mod Prefix
-mod Header
+mod Widths
+mod Steps

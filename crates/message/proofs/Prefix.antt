@@ -14,11 +14,6 @@ pub prefixed_push : {A : Type 0} (xs : List A) (x : A) (r : Read (List A)) → p
 prefixed_push {A} xs x (Ok p) = ap (λ (ys : List A). Ok (ys, p.1)) (sym (append_assoc xs (x ∷ []) p.0))
 prefixed_push xs x (Err e) = refl
 
--- nothing before: what is read is itself
-pub prefixed_nil : {A : Type 0} (r : Read (List A)) → r ≡ prefixed [] r
-prefixed_nil (Ok p) = refl
-prefixed_nil (Err e) = refl
-
 -- nothing left
 pub prefixed_all : {A : Type 0} (xs : List A) (rest : List ℕ) → prefixed xs (Ok ([], rest)) ≡ Ok (xs, rest)
 prefixed_all {A} xs rest = ap (λ (ys : List A). Ok (ys, rest)) (append-nil xs)

@@ -5,8 +5,10 @@ use Rattle.task.specs.declared.tasks.Task.{Task}
 use Rattle.task.specs.Task.{accesses_of}
 use Rattle.message.specs.declared.Message.{Message}
 use Rattle.message.specs.declared.Message.TheVariants.{Submission, Finish}
+use Rattle.message.specs.declared.kind.Kind.{Kind}
 use Rattle.layout.specs.Layout.{Contents, submits, finishes, version, layout}
 use Rattle.layout.specs.Reading.{Read, read}
+use Rattle.message.specs.Kinds.{kind_code}
 
 -- what a message says
 abbrev pub contents_of : Message → Contents
@@ -22,12 +24,12 @@ Answered bytes place (Ok message) after =
     × (after ≡ place + length (layout (contents_of message)))
 Answered bytes place (Err fault) after = (read place (drop place bytes) ≡ Err fault) × (after ≡ place)
 
--- a field of w bytes, as the reader has it, is read at a place of these bytes, in a message that begins at start: its value, with
--- the place behind it and within the bytes; or its fault, with the place as it was
-abbrev pub FieldRead : {A : Type 0} → (ℕ → List ℕ → Read A) → ℕ → List ℕ → ℕ → ℕ → Result A StreamFault → ℕ → Type 0
-FieldRead field w bytes start place (Ok x) after =
-    (field (place - start) (drop place bytes) ≡ Ok (x, drop after bytes)) × (after ≡ place + w) × (after ≤ length bytes)
-FieldRead field w bytes start place (Err fault) after = (field (place - start) (drop place bytes) ≡ Err fault) × (after ≡ place)
+-- a field of w bytes, as the reader has it, is read at a place of these bytes, in a message that begins at start: what its value
+-- says, with the place behind it and within the bytes; or its fault, with the place as it was
+abbrev pub FieldRead : {A X : Type 0} → (ℕ → List ℕ → Read A) → (X → A) → ℕ → List ℕ → ℕ → ℕ → Result X StreamFault → ℕ → Type 0
+FieldRead field says w bytes start place (Ok x) after =
+    (field (place - start) (drop place bytes) ≡ Ok (says x, drop after bytes)) × (after ≡ place + w) × (after ≤ length bytes)
+FieldRead field says w bytes start place (Err fault) after = (field (place - start) (drop place bytes) ≡ Err fault) × (after ≡ place)
 
 -- the same for a field that is a list, which the code holds in a form of its own
 abbrev pub ListRead : {A X : Type 0} → (ℕ → List ℕ → Read (List A)) → (X → List A) → ℕ → List ℕ → ℕ → ℕ → Result X StreamFault → ℕ → Type 0
@@ -39,11 +41,6 @@ ListRead field items w bytes start place (Err fault) after = field (place - star
 abbrev pub BodyRead : {X : Type 0} → (List ℕ → Read Contents) → (X → Contents) → (X → ℕ) → List ℕ → ℕ → Result X StreamFault → ℕ → Type 0
 BodyRead body says w bytes place (Ok x) after = (body (drop place bytes) ≡ Ok (says x, drop after bytes)) × (after ≡ place + w x)
 BodyRead body says w bytes place (Err fault) after = body (drop place bytes) ≡ Err fault
-
--- a message that was read is laid out in just the bytes from the place to that behind it
-abbrev pub LaidOut : List ℕ → ℕ → Result Message StreamFault → ℕ → Type 0
-LaidOut bytes place (Ok message) after = drop place bytes ≡ layout (contents_of message) ++ drop after bytes
-LaidOut bytes place (Err fault) after = Unit {0}
 
 -- what a submitted task says; and how many bytes its submission has behind the first two
 abbrev pub submitted : Task → Contents
@@ -57,6 +54,6 @@ abbrev pub message_width : Message → ℕ
 message_width m = length (layout (contents_of m))
 
 -- the first two bytes are read: the version, which is known, and the kind; or the fault of the message
-abbrev pub HeaderRead : List ℕ → ℕ → Result ℕ StreamFault → ℕ → Type 0
-HeaderRead bytes place (Ok kind) after = (drop place bytes ≡ version ∷ (kind ∷ drop after bytes)) × (after ≡ place + 2) × (after ≤ length bytes)
+abbrev pub HeaderRead : List ℕ → ℕ → Result Kind StreamFault → ℕ → Type 0
+HeaderRead bytes place (Ok kind) after = (drop place bytes ≡ version ∷ (kind_code kind ∷ drop after bytes)) × (after ≡ place + 2) × (after ≤ length bytes)
 HeaderRead bytes place (Err fault) after = read place (drop place bytes) ≡ Err fault

@@ -1,1 +1,3 @@
+pub mod Kinds
 pub mod Contents
+pub mod Fields

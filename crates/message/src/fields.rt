@@ -1,77 +1,174 @@
-// The fields of a message, read one after another. Each moves the place behind itself, or refuses and leaves it.
-ghost use Rattle.std.specs.Prelude.{◌≡◌, ℕ, ◌+◌, ◌-◌, ◌*◌, ◌<◌, ◌≤◌, List, [], length, Ok, Err, MatchResult};
-ghost use Rattle.layout.specs.Reading.{number, direction_at};
-ghost use Rattle.message.specs.Contents.{FieldRead};
+// The fields of a message, read one after another.
+ghost use Rattle.std.specs.Prelude.{◌≡◌, ℕ, ◌+◌, ◌-◌, ◌*◌, ◌<◌, ◌≤◌, [], ◌∷◌, length, take, Err, IfOk};
+ghost use Rattle.layout.specs.Reading.{read};
 
-use crate::Place;
+use crate::kind::Kind;
+use crate::{Message, Place};
 use fault::StreamFault;
-use task::Direction;
+use task::{Access, Direction, MAX_ACCESSES, Task};
 
-// A number of two bytes.
-pub(crate) fn number2(bytes: &[u8], place: &mut Place, start: usize) -> Result<u16, StreamFault>
-    requires { (start ≤ place.old.at) × (place.old.at ≤ length bytes.now) }
-    ensures { FieldRead (number 2) 2 bytes.now start place.old.at result place.new.at }
-{
-    let rest = &bytes[place.at..];
-    let [a, b, ..] = rest else {
-        return Err(StreamFault::BeyondEnd {
-            byte: place.at - start,
-        });
-    };
-    place.at += 2;
-    Ok(u16::from_le_bytes([*a, *b]))
-}
+// The first byte of every message.
+const VERSION: u8 = 2;
 
-// A number of four bytes.
-pub(crate) fn number4(bytes: &[u8], place: &mut Place, start: usize) -> Result<u32, StreamFault>
-    requires { (start ≤ place.old.at) × (place.old.at ≤ length bytes.now) }
-    ensures { FieldRead (number 4) 4 bytes.now start place.old.at result place.new.at }
-{
-    let rest = &bytes[place.at..];
-    let [a, b, c, d, ..] = rest else {
-        return Err(StreamFault::BeyondEnd {
-            byte: place.at - start,
-        });
-    };
-    place.at += 4;
-    Ok(u32::from_le_bytes([*a, *b, *c, *d]))
-}
-
-// A number of eight bytes.
-pub(crate) fn number8(bytes: &[u8], place: &mut Place, start: usize) -> Result<u64, StreamFault>
-    requires { (start ≤ place.old.at) × (place.old.at ≤ length bytes.now) }
-    ensures { FieldRead (number 8) 8 bytes.now start place.old.at result place.new.at }
-{
-    let rest = &bytes[place.at..];
-    let [a, b, c, d, e, f, g, h, ..] = rest else {
-        return Err(StreamFault::BeyondEnd {
-            byte: place.at - start,
-        });
-    };
-    place.at += 8;
-    Ok(u64::from_le_bytes([*a, *b, *c, *d, *e, *f, *g, *h]))
-}
-
-// A direction.
-pub(crate) fn direction(
-    bytes: &[u8],
-    place: &mut Place,
+// A message whose fields are read: the run of bytes, the place of the next field, and where the message begins.
+#[derive(Drop)]
+pub(crate) struct Fields<'a> {
+    bytes: &'a [u8],
+    place: &'a mut Place,
     start: usize,
-) -> Result<Direction, StreamFault>
-    requires { (start ≤ place.old.at) × (place.old.at ≤ length bytes.now) }
-    ensures { FieldRead direction_at 1 bytes.now start place.old.at result place.new.at }
+    ghost begun: { start ≤ place.now.at },
+    ghost inside: { place.now.at ≤ length bytes.now },
+}
+
+impl<'a> Fields<'a> {
+    ghost use Rattle.layout.specs.Reading.{value, number, direction_at, addresses, directions, submission};
+    ghost use Rattle.message.specs.Contents.{contents_of, message_width, submitted, submission_width, FieldRead, ListRead, BodyRead, HeaderRead};
+    ghost use Rattle.message.specs.Fields.{SameMessage};
+    ghost use Rattle.task.specs.Limits.{max_accesses};
+    ghost use Rattle.task.specs.Task.{accesses_of};
+
+    // The fields of the message that begins at the place.
+    pub(crate) fn new(bytes: &'a [u8], place: &'a mut Place) -> Fields<'a>
+        requires { place.old.at ≤ length bytes.now }
+        ensures reference { result.place.ghost_name ≡ place.entry.ghost_name }
+        ensures place { result.place.now ≡ place.old }
+        ensures bytes { result.bytes.now ≡ bytes.now }
+        ensures start { result.start ≡ place.old.at }
+    {
+        let start = place.at;
+        Fields {
+            bytes,
+            place,
+            start,
+        }
+    }
+
+    // The byte number of the next field, counted from the message's first byte.
+    fn byte(&self) -> usize
+        ensures { result ≡ self.now.place.now.at - self.now.start }
+    {
+        self.place.at - self.start
+    }
+
+    // The next field, of N bytes. The place moves behind it; or it reaches beyond the end, and the place stays.
+    fn field<const N: usize>(&mut self) -> Result<[u8; N], StreamFault>
+        ensures same { SameMessage self.old self.new }
+        ensures read { FieldRead (number N) value N self.old.bytes.now self.old.start self.old.place.now.at result self.new.place.now.at }
+    {
+        let rest = &self.bytes[self.place.at..];
+        let Some(field) = rest.first_chunk::<N>() else {
+            return Err(StreamFault::BeyondEnd { byte: self.byte() });
+        };
+        self.place.at += N;
+        Ok(*field)
+    }
+
+    // A direction. The place moves behind it; or it is refused, and the place stays.
+    fn direction(&mut self) -> Result<Direction, StreamFault>
+        ensures same { SameMessage self.old self.new }
+        ensures read { FieldRead direction_at (λ d. d) 1 self.old.bytes.now self.old.start self.old.place.now.at result self.new.place.now.at }
+    {
+        let byte = self.byte();
+        let [code, ..] = &self.bytes[self.place.at..] else {
+            return Err(StreamFault::BeyondEnd { byte });
+        };
+        let direction = Direction::try_from(*code).map_err(
+            |unknown| StreamFault::UnknownDirection {
+                byte,
+                found: unknown.found,
+            },
+        )?;
+        self.place.at += 1;
+        Ok(direction)
+    }
+
+    // The message, from its first byte. The place moves on with each field.
+    pub(crate) fn message(&mut self) -> Result<Message, StreamFault>
+        requires first { self.old.place.now.at ≡ self.old.start }
+        requires some { self.old.place.now.at < length self.old.bytes.now }
+        ensures reference { self.new.place.ghost_name ≡ self.old.place.ghost_name }
+        ensures read { BodyRead (read self.old.place.now.at) contents_of message_width self.old.bytes.now self.old.place.now.at result self.new.place.now.at }
+    {
+        match self.header()? {
+            Kind::Submission => Ok(Message::Submission(self.submission()?)),
+            Kind::Finish => Ok(Message::Finish(u16::from_le_bytes(self.field()?))),
+        }
+    }
+
+    // The kind of the message, whose version is known. The place moves behind the two.
+    fn header(&mut self) -> Result<Kind, StreamFault>
+        requires { self.old.place.now.at < length self.old.bytes.now }
+        ensures same { SameMessage self.old self.new }
+        ensures read { HeaderRead self.old.bytes.now self.old.place.now.at result self.new.place.now.at }
+    {
+        let [version, kind, rest @ ..] = &self.bytes[self.place.at..] else {
+            return Err(one_byte(self.bytes[self.place.at]));
+        };
+        if *version != VERSION {
+            return Err(StreamFault::UnknownVersion { found: *version });
+        }
+        let kind = Kind::try_from(*kind)?;
+        self.place.at = self.bytes.len() - rest.len();
+        Ok(kind)
+    }
+
+    // The addresses, of which there are n.
+    fn addresses(&mut self, n: usize) -> Result<[u64; MAX_ACCESSES], StreamFault>
+        requires { n ≤ max_accesses }
+        ensures same { SameMessage self.old self.new }
+        ensures read { ListRead (addresses n) (take n) (8 * n) self.old.bytes.now self.old.start self.old.place.now.at result self.new.place.now.at }
+    {
+        let mut list = [0; MAX_ACCESSES];
+        for slot in &mut list[..n] {
+            *slot = u64::from_le_bytes(self.field()?);
+        }
+        Ok(list)
+    }
+
+    // A direction for each of the addresses. The two together are pushed to the task.
+    fn directions(&mut self, list: &[u64], mut task: Task) -> Result<Task, StreamFault>
+        requires few { length list.now ≤ max_accesses }
+        requires empty { accesses_of task ≡ [] }
+        ensures same { SameMessage self.old self.new }
+        ensures kept { IfOk result (λ t. (t.name ≡ task.name) × (t.kind ≡ task.kind) × (length (accesses_of t) ≡ length list.now)) }
+        ensures read { ListRead (directions list.now) accesses_of (length list.now) self.old.bytes.now self.old.start self.old.place.now.at result self.new.place.now.at }
+    {
+        for address in list {
+            let direction = self.direction()?;
+            let access = Access {
+                address: *address,
+                direction,
+            };
+            let _ = task.push(access);
+        }
+        Ok(task)
+    }
+
+    // A submission, behind its first two bytes.
+    fn submission(&mut self) -> Result<Task, StreamFault>
+        requires { self.old.place.now.at ≡ self.old.start + 2 }
+        ensures same { SameMessage self.old self.new }
+        ensures read { BodyRead submission submitted submission_width self.old.bytes.now self.old.place.now.at result self.new.place.now.at }
+    {
+        let count = u16::from_le_bytes(self.field()?);
+        let n = usize::from(count);
+        if n > MAX_ACCESSES {
+            return Err(StreamFault::TooMany { count });
+        }
+        let name = u32::from_le_bytes(self.field()?);
+        let kind = u32::from_le_bytes(self.field()?);
+        let list = self.addresses(n)?;
+        self.directions(&list[..n], Task::new(name, kind))
+    }
+}
+
+// What is wrong with a message of one byte.
+fn one_byte(version: u8) -> StreamFault
+    ensures { (place : ℕ) → read place (version ∷ []) ≡ Err result }
 {
-    let byte = place.at - start;
-    let rest = &bytes[place.at..];
-    let [code, ..] = rest else {
-        return Err(StreamFault::BeyondEnd { byte });
-    };
-    let direction = match *code {
-        1 => Direction::In,
-        2 => Direction::Out,
-        3 => Direction::InOut,
-        found => return Err(StreamFault::UnknownDirection { byte, found }),
-    };
-    place.at += 1;
-    Ok(direction)
+    if version != VERSION {
+        StreamFault::UnknownVersion { found: version }
+    } else {
+        StreamFault::BeyondEnd { byte: 1 }
+    }
 }

@@ -3,7 +3,7 @@
 
 mod fields;
 mod guard;
-mod lists;
+mod kind;
 mod reader;
 
 pub use guard::PlaceGuard;

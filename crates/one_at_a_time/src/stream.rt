@@ -41,17 +41,12 @@ fn run_next<H: ReadBack>(
     ensures fixed { H.Host.fixed host.new ≡ H.Host.fixed host.old }
     ensures cases { MatchResult result (λ _. Next (H.Host.fixed host.old) bytes.now place.old.at place.new.at (lines_of entries.old.items) (lines_of entries.new.items) (H.Host.values host.old) (H.Host.values host.new)) (λ e. Ended (H.Host.fixed host.old) bytes.now place.old.at e × (place.new.at ≡ place.old.at) × (entries.new.items ≡ entries.old.items) × (H.Host.values host.new ≡ H.Host.values host.old)) }
 {
-    let old = place.at;
-    let mut guard = PlaceGuard {
-        place,
-        old,
-        accepted: false,
-    };
+    let mut guard = PlaceGuard::new(place);
     let message = read_message(bytes, guard.place)?;
     entries.reserve(1)?;
     let entry = entry_of(heap, host, message)?;
     entries.push_reserved(entry);
-    guard.accepted = true;
+    guard.accept();
     Ok(())
 }
 
