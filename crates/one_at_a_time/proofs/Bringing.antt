@@ -1,9 +1,10 @@
 -- Bringing the reading accesses one after another: what is left from here comes to what all comes to from the start.
 -- Assumes nothing.
-use Rattle.std.proofs.Common.{◌≡◌, ℕ, suc, ◌+◌, Bool, true, false, cond, eqb, List, [], ◌∷◌, ◌++◌, map, length, sym, refl, ap, ◌∙◌, append_assoc, append-nil, add-one, arith, eqb-true}
+use Rattle.std.proofs.Common.{◌≡◌, ℕ, suc, ◌+◌, ◌<◌, Bool, true, false, cond, ◌&&◌, eqb, ltb, Some, None, Option, List, [], ◌∷◌, ◌++◌, map, length, sym, refl, ap, ◌∙◌, append_assoc, append-nil, add-one, arith, eq-eqb, eqb-true, lt-ltb}
+use Rattle.std.proofs.lemmas.Bool.{cond-true}
 use mathlib.Core.Path.{fun_ext}
 use Rattle.task.specs.Access.{Numbered}
-use Rattle.host.specs.Meaning.{Values, update, copied}
+use Rattle.host.specs.Meaning.{Fixed, Values, seats, positions, update, copied, brought}
 use Rattle.one_at_a_time.specs.Alone.{filled, brought_alone}
 
 -- a function changed to what it was is itself; and the second of two changes at one argument stays
@@ -53,6 +54,15 @@ bring_more {V} w0 all left x n n' items more w w' on grown moved b =
           ∙ ap (λ (f : ℕ → ℕ → V). record { at = w.at; aside = f }) (update_twice w.aside 0 (update (w.aside 0) n v) (filled (n + 1) rest (update (w.aside 0) n v)))
           ∙ ap (λ (m : ℕ). record { at = w.at; aside = update w.aside 0 (filled m rest (update (w.aside 0) n v)) }) (add-one n) ∙ b.values;
     }
+
+-- a held address is brought to a position that the seat has, and its value is found there
+pub brought_there : {V : Type 0} (h : Fixed V) (a p : ℕ) (w w' : Values V) (o : Option V) → h.held a ≡ true → p < positions → w' ≡ brought h a 0 p w →
+    o ≡ cond (ltb 0 seats && ltb p positions) (Some (w'.aside 0 p)) None → (w' ≡ copied a 0 p w) × (o ≡ Some (w.at a))
+brought_there {V} h a p w w' o there lt e f =
+    let t : ltb p positions ≡ true = lt-ltb p positions lt in
+    let moved : w' ≡ copied a 0 p w = e ∙ rw (there, t) refl in
+    let seen : w'.aside 0 p ≡ w.at a = ap (λ (v : Values V). v.aside 0 p) moved ∙ cond-true (eqb p p) (w.at a) (w.aside 0 p) (eq-eqb p p refl) in
+    (moved, f ∙ rw t (ap Some seen))
 
 -- nothing is brought
 pub same_bringing : {V : Type 0} (w0 : Values V) (all left : List Numbered) (n n' : ℕ) (items more : List V) (w w' : Values V) →

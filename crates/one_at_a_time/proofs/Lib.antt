@@ -1,4 +1,3 @@
-mod Empty
 mod Numbering
 mod Bringing
 mod Putting

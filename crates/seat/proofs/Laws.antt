@@ -1,12 +1,12 @@
 -- The phases of a task go through its steps, one step at a time and in order. Assumes nothing.
-use Rattle.std.proofs.Common.{◌≡◌, ℕ, suc, ◌<◌, ◌≤◌, true, List, [], ◌∷◌, ◌++◌, length, take, drop, Some, None, Option, sym, refl, ap, ◌∙◌, arith, length-take, eq-eqb, eqb-true}
+use Rattle.std.proofs.Common.{◌≡◌, ℕ, suc, ◌+◌, ◌<◌, ◌≤◌, true, List, [], ◌∷◌, ◌++◌, length, take, drop, Some, None, Option, sym, refl, ap, ◌∙◌, add-one, arith, length-take, eq-eqb, eqb-true}
 use Rattle.std.proofs.lemmas.Bool.{and_parts, and_from}
 use Rattle.task.specs.declared.Access.{Access}
 use Rattle.task.specs.Access.{Numbered, reads, writes, numbered, readers, writers}
 use Rattle.order.specs.Steps.{Step, bring, put, brings, puts, steps}
 use Rattle.seat.specs.declared.Phase.{Phase}
 use Rattle.seat.specs.declared.Phase.TheVariants.{Bring, Put, Done}
-use Rattle.seat.specs.Phases.{reads_at, writes_at, address_at, steps_in, sound_phase, sound_standing, put_phase, bring_phase, first_phase, after_bring, after_put}
+use Rattle.seat.specs.Phases.{reads_at, writes_at, address_at, steps_in, sound_phase, sound_standing, next_from, put_phase, bring_phase, first_phase, after_bring, after_put}
 use Rattle.seat.specs.declared.Standing.{Standing}
 use Rattle.seat.specs.declared.Standing.TheVariants.{Running}
 use Rattle.seat.specs.Laws.{PhasesAreTheSteps}
@@ -53,6 +53,14 @@ module _ (xs : List Access) where
   pub put_low : (i n : ℕ) → sound_phase xs (Put i n) ≡ true → (i < length xs) × (n ≤ length xs)
   put_low i n h = let q = put_is i n h in (passes_low writes xs i q.0, omega (arith, q.1, count_low reads 0 xs))
 
+  -- the phase after a bring, by the number of the access after it
+  pub bring_phase-add : (i n : ℕ) → bring_phase xs (n + 1) (next_from reads (i + 1) (drop (i + 1) xs)) ≡ after_bring xs i n
+  bring_phase-add i n = simp add-one
+
+  -- the phase after a put
+  pub put_phase-add : (i n : ℕ) → put_phase n (next_from writes (i + 1) (drop (i + 1) xs)) ≡ after_put xs i n
+  put_phase-add i n = simp add-one
+
   -- the first phase has all steps
   pub first_steps : steps_in xs (first_phase xs) ≡ steps xs
   first_steps = bring_steps_by 0 0 _ (arrives reads 0 xs)
@@ -89,8 +97,8 @@ module _ (xs : List Access) where
 
   -- only a task that is done has no step left
   pub no_steps : (p : Phase) → sound_phase xs p ≡ true → steps_in xs p ≡ [] → p ≡ Done
-  no_steps (Bring i n) h e = let s = bring_steps i n h in let z : ◌≡◌ {A = ℕ} 0 1 = cc in absurd (omega arith)
-  no_steps (Put i n) h e = let s = put_steps i n h in let z : ◌≡◌ {A = ℕ} 0 1 = cc in absurd (omega arith)
+  no_steps (Bring i n) h e = let s = bring_steps i n h in absurd cc
+  no_steps (Put i n) h e = let s = put_steps i n h in absurd cc
   no_steps Done h e = refl
 
   -- all of these together

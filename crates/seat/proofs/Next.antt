@@ -1,6 +1,6 @@
--- The next access that passes a test: what is found, how many accesses pass before it, and how a loop finds it. Assumes nothing.
-use Rattle.std.proofs.Common.{◌≡◌, ℕ, zero, suc, ◌+◌, ◌<◌, ◌≤◌, Bool, true, false, cond, List, [], ◌∷◌, ◌++◌, length, get_or, take, drop, Some, None, Option, sym, refl, ap, ◌∙◌, suc-add, zero-add, add-one, arith, take-append-drop, drop-cons, take-suc, drop-drop, take-add}
-use Rattle.std.proofs.lemmas.List.{drop_all}
+-- The next access that passes a test: what is found, how many accesses pass before it, and how a search by position finds it. Assumes nothing.
+use Rattle.std.proofs.Common.{◌≡◌, ℕ, zero, suc, ◌+◌, ◌<◌, ◌≤◌, Bool, true, false, cond, List, [], ◌∷◌, ◌++◌, length, get_or, take, drop, Some, None, Option, option_map, sym, refl, ap, ◌∙◌, suc-add, zero-add, arith, take-append-drop, drop-cons, take-suc, drop-drop, take-add}
+use Rattle.std.specs.List.{position_from}
 use Rattle.task.specs.declared.Access.{Access}
 use Rattle.task.specs.Access.{Numbered, keep, numbered}
 use Rattle.seat.specs.Phases.{blank, first_passes, next_from}
@@ -37,8 +37,8 @@ count_low p i (x ∷ xs) = keep_low (p x) _ (numbered p (suc i) xs) (length xs) 
 
 -- an access that passes is one of the list
 pub passes_low : (p : Access → Bool) (xs : List Access) (i : ℕ) → first_passes p (drop i xs) ≡ true → i < length xs
-passes_low p [] zero h = let z : ◌≡◌ {A = ℕ} 0 1 = cc in absurd (omega arith)
-passes_low p [] (suc i) h = let z : ◌≡◌ {A = ℕ} 0 1 = cc in absurd (omega arith)
+passes_low p [] zero h = absurd cc
+passes_low p [] (suc i) h = absurd cc
 passes_low p (x ∷ xs) zero h = omega arith
 passes_low p (x ∷ xs) (suc i) h = omega (arith, passes_low p xs i h)
 
@@ -103,20 +103,16 @@ module _ (p : Access → Bool) (xs : List Access) (i : ℕ) (passes : first_pass
   count_here =
       rw (take-suc xs i blank (passes_low p xs i passes)) (count_append p 0 (take i xs) (get_or xs i blank ∷ []) ∙ rw passes_here (omega arith))
 
--- a loop looks at the accesses from number k on, and has come to number i
-module _ (p : Access → Bool) (xs : List Access) (k i : ℕ) (so_far : next_from p k (drop k xs) ≡ next_from p i (drop i xs)) where
-  -- the access there passes
-  pub next_here : i < length xs → p (get_or xs i blank) ≡ true → Some i ≡ next_from p k (drop k xs)
-  next_here lt e = sym (so_far ∙ rw (drop-cons xs i blank lt, e))
+-- a number that a test chooses or not, mapped
+option_map-cond : (f : ℕ → ℕ) (b : Bool) (j : ℕ) (r : Option ℕ) → option_map f (cond b (Some j) r) ≡ cond b (Some (f j)) (option_map f r)
+option_map-cond f true j r = refl
+option_map-cond f false j r = refl
 
-  -- it does not
-  pub next_later : i < length xs → p (get_or xs i blank) ≡ false → next_from p k (drop k xs) ≡ next_from p (i + 1) (drop (i + 1) xs)
-  next_later lt e = rw add-one (so_far ∙ rw (drop-cons xs i blank lt, e))
-
-  -- none is left
-  pub next_none : length xs ≤ i → None ≡ next_from p k (drop k xs)
-  next_none le = sym (so_far ∙ ap (next_from p i) (drop_all i xs le))
-
--- the number after i, as the code has it and as the definitions do
-pub next_after : (p : Access → Bool) (xs : List Access) (i : ℕ) → next_from p (i + 1) (drop (i + 1) xs) ≡ next_from p (suc i) (drop (suc i) xs)
-next_after p xs i = rw add-one
+-- the first place that passes, counted from the number of the first access, is the next access that passes
+pub option_map-position_from : (p : Access → Bool) (k j : ℕ) (xs : List Access) → option_map (λ n. k + n) (position_from p j xs) ≡ next_from p (k + j) xs
+option_map-position_from p k j [] = refl
+option_map-position_from p k j (x ∷ xs) =
+    let f : ℕ → ℕ = λ n. k + n in
+    let s : k + (j + 1) ≡ suc (k + j) = omega arith in
+    let rest : option_map f (position_from p (j + 1) xs) ≡ next_from p (suc (k + j)) xs = option_map-position_from p k (j + 1) xs ∙ ap (λ (i : ℕ). next_from p i xs) s in
+    option_map-cond f (p x) j (position_from p (j + 1) xs) ∙ ap (cond (p x) (Some (k + j))) rest

@@ -4,6 +4,7 @@ use fault::{Cause, StreamFault};
 use host::ReadBack;
 use one_at_a_time::{End, Entry, TaskRun};
 use std::fmt;
+use task::{Access, Task};
 
 impl fmt::Display for Report {
     fn fmt<W: fmt::Write>(&self, f: &mut fmt::Formatter<W>) -> fmt::Result {
@@ -39,38 +40,30 @@ fn write_task<W: fmt::Write>(f: &mut fmt::Formatter<W>, run: &TaskRun<u64>) -> f
     let name = run.task.name;
     let kind = run.task.kind;
     write!(f, "task {name} kind {kind}: read")?;
-    if run.read.is_empty() {
-        write!(f, " nothing")?;
-    }
-    let mut values = run.read.iter();
-    for access in run.task.accesses() {
-        if access.reads() {
-            write_value(f, access.address, values.next())?;
-        }
-    }
+    write_values(f, &run.task, Access::reads, &run.read)?;
     write!(f, "; wrote")?;
-    if run.wrote.is_empty() {
-        write!(f, " nothing")?;
-    }
-    let mut values = run.wrote.iter();
-    for access in run.task.accesses() {
-        if access.writes() {
-            write_value(f, access.address, values.next())?;
-        }
-    }
+    write_values(f, &run.task, Access::writes, &run.wrote)?;
     writeln!(f, "")
 }
 
-// One address with its value.
-fn write_value<W: fmt::Write>(
+// The addresses of the accesses that pass the test, each with its value, or that there is none.
+fn write_values<W: fmt::Write, F: Fn(&Access) -> bool>(
     f: &mut fmt::Formatter<W>,
-    address: u64,
-    value: Option<&u64>,
-) -> fmt::Result {
-    match value {
-        Some(value) => write!(f, " {address}={value}"),
-        None => Ok(()),
+    task: &Task,
+    passes: F,
+    values: &[u64],
+) -> fmt::Result
+    requires { F.IsAlwaysCallable passes }
+{
+    if values.is_empty() {
+        return write!(f, " nothing");
     }
+    let passing = task.accesses().iter().filter(|access| passes(access));
+    for (access, value) in passing.zip(values) {
+        let address = access.address;
+        write!(f, " {address}={value}")?;
+    }
+    Ok(())
 }
 
 // How the run ended: at the end of the stream, at a message that is refused, or for want of memory.
@@ -97,12 +90,11 @@ fn write_end<W: fmt::Write>(f: &mut fmt::Formatter<W>, place: usize, end: &End) 
 
 // Each stamp that is not zero.
 fn write_stamps<W: fmt::Write>(f: &mut fmt::Formatter<W>, report: &Report) -> fmt::Result {
-    for address in 0..report.host.len() as u64 {
-        if let Some(value) = report.host.value_at(address) {
-            if value != 0 {
-                writeln!(f, "stamp {address} = {value}")?;
-            }
-        }
+    let stamps = (0..report.host.len() as u64)
+        .filter_map(|address| report.host.value_at(address).map(|value| (address, value)))
+        .filter(|(_, value)| *value != 0);
+    for (address, value) in stamps {
+        writeln!(f, "stamp {address} = {value}")?;
     }
     Ok(())
 }

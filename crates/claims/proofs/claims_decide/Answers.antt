@@ -1,7 +1,5 @@
-use Rattle.std.proofs.Common.{refl}
 use Rattle.claims.proofs.Counts.{claims_decide}
 use Rattle.claims.proofs.claims_decide.Goals as goal
 
--- src/lib.rt:14:1
-pub returns : goal.returns
-returns c = record { law = claims_decide; value = refl }
+pub returns-clause-law : goal.returns-clause-law
+returns-clause-law c = claims_decide

@@ -1,8 +1,9 @@
 // Reading a seat, and moving it in place.
-ghost use Rattle.std.specs.Prelude.{◌≡◌, ◌≤◌, true, [], length, drop, is_some, if◌then◌else◌};
+ghost use Rattle.std.specs.Prelude.{◌≡◌, Bool, [], drop, is_some, if◌then◌else◌};
+ghost use Rattle.task.specs.declared.Access.{Access};
 ghost use Rattle.task.specs.Access.{reads, writes};
 ghost use Rattle.task.specs.Task.{accesses_of};
-ghost use Rattle.seat.specs.Phases.{next_from, put_phase, bring_phase, first_phase, after_bring, after_put, sound_phase, moved, or_else, is_free_in, next_of};
+ghost use Rattle.seat.specs.Phases.{next_from, put_phase, bring_phase, moved, or_else, is_free_in, next_of};
 
 use crate::seats::Seat;
 use crate::{Event, NextStep, Phase, Standing};
@@ -40,28 +41,26 @@ impl Seat {
     pub fn is_free(&self) -> bool
         ensures { result ≡ is_free_in self.now.standing }
     {
-        match self.standing {
-            Standing::Free => true,
-            _ => false,
-        }
+        matches!(self.standing, Standing::Free)
     }
 
     // Moves the seat at an event, or refuses the event and leaves the seat as it is.
+    // Kept: the answer says only whether the event was taken, so a bool is as plain as a Result that holds no value and no error.
     pub fn on(&mut self, event: Event) -> bool
         ensures answer { result ≡ is_some (moved (accesses_of self.old.task) self.old.standing event) }
         ensures standing { self.new.standing ≡ or_else (moved (accesses_of self.old.task) self.old.standing event) self.old.standing }
         ensures task { self.new.task ≡ self.old.task }
     {
-        let accesses = self.task.accesses();
+        let task = self.task();
         let next = match (self.standing, event) {
             (Standing::Free, Event::Entered { blocked: true }) => Standing::Waiting,
             (Standing::Free, Event::Entered { blocked: false }) => Standing::Ready,
             (Standing::Waiting, Event::Unblocked) => Standing::Ready,
-            (Standing::Ready, Event::Taken) => Standing::Running(first_phase(accesses)),
+            (Standing::Ready, Event::Taken) => Standing::Running(bring_from(task, 0, 0)),
             (Standing::Running(Phase::Bring { access, brought }), Event::Stepped) =>
-                Standing::Running(after_bring(accesses, access, brought)),
+                Standing::Running(bring_from(task, access + 1, brought + 1)),
             (Standing::Running(Phase::Put { access, brought }), Event::Stepped) =>
-                Standing::Running(after_put(accesses, access, brought)),
+                Standing::Running(put_from(task, access + 1, brought)),
             (Standing::Running(Phase::Done), Event::Finished) => Standing::Free,
             _ => return false,
         };
@@ -83,6 +82,7 @@ impl Seat {
     }
 
     // What the next step of the task does, if it runs and has a step left.
+    #[tactic(auto, using(crate::proofs::Laws::bring_low, crate::proofs::Laws::put_low))]
     pub fn next_step(&self) -> Option<NextStep>
         ensures { result ≡ next_of (accesses_of self.now.task) self.now.standing }
     {
@@ -103,73 +103,34 @@ impl Seat {
     }
 }
 
-// The phase in which a task with these accesses starts.
-fn first_phase(accesses: &[Access]) -> Phase
-    requires { length accesses.now ≤ 15 }
-    ensures { result ≡ first_phase accesses.now }
+// The phase of the first bring from this access on, or of the first put where none is left to bring.
+fn bring_from(task: &Task, access: u8, brought: u8) -> Phase
+    ensures { result ≡ bring_phase (accesses_of task.now) brought (next_from reads access (drop access (accesses_of task.now))) }
 {
-    bring_phase(accesses, 0, next_reading(accesses, 0))
-}
-
-// The phase after the bring at this access.
-fn after_bring(accesses: &[Access], access: u8, brought: u8) -> Phase
-    requires { (length accesses.now ≤ 15) × (sound_phase accesses.now (Phase.Bring access brought) ≡ true) }
-    ensures { result ≡ after_bring accesses.now access brought }
-{
-    bring_phase(accesses, brought + 1, next_reading(accesses, access + 1))
-}
-
-// The phase after the put at this access.
-fn after_put(accesses: &[Access], access: u8, brought: u8) -> Phase
-    requires { (length accesses.now ≤ 15) × (sound_phase accesses.now (Phase.Put access brought) ≡ true) }
-    ensures { result ≡ after_put accesses.now access brought }
-{
-    put_phase(brought, next_writing(accesses, access + 1))
-}
-
-// The phase of a bring at this access, or of the first put where none is left to bring.
-fn bring_phase(accesses: &[Access], brought: u8, access: Option<u8>) -> Phase
-    requires { length accesses.now ≤ 15 }
-    ensures { result ≡ bring_phase accesses.now brought access }
-{
-    match access {
+    match next_access(task, access, Access::reads) {
         Some(access) => Phase::Bring { access, brought },
-        None => put_phase(brought, next_writing(accesses, 0)),
+        None => put_from(task, 0, brought),
     }
 }
 
-// The phase of a put at this access, or that of a task that is done.
-fn put_phase(brought: u8, access: Option<u8>) -> Phase
-    ensures { result ≡ put_phase brought access }
+// The phase of the first put from this access on, or that of a task that is done.
+fn put_from(task: &Task, access: u8, brought: u8) -> Phase
+    ensures { result ≡ put_phase brought (next_from writes access (drop access (accesses_of task.now))) }
 {
-    match access {
+    match next_access(task, access, Access::writes) {
         Some(access) => Phase::Put { access, brought },
         None => Phase::Done,
     }
 }
 
-// The first access that reads, from this number on.
-fn next_reading(accesses: &[Access], from: u8) -> Option<u8>
-    requires { length accesses.now ≤ 15 }
-    ensures { result ≡ next_from reads from (drop from accesses.now) }
+// The first access from this number on that passes the test.
+fn next_access<F: Fn(&Access) -> bool>(task: &Task, from: u8, passes: F) -> Option<u8>
+    requires { F.IsAlwaysCallable passes }
+    ensures { (test : Access → Bool) → ((x : _) (b : Bool) → F.post passes x b → b ≡ test x.now) → result ≡ next_from test from (drop from (accesses_of task.now)) }
 {
-    for i in from..accesses.len() as u8 {
-        if accesses[i as usize].reads() {
-            return Some(i);
-        }
-    }
-    None
-}
-
-// The first access that writes, from this number on.
-fn next_writing(accesses: &[Access], from: u8) -> Option<u8>
-    requires { length accesses.now ≤ 15 }
-    ensures { result ≡ next_from writes from (drop from accesses.now) }
-{
-    for i in from..accesses.len() as u8 {
-        if accesses[i as usize].writes() {
-            return Some(i);
-        }
-    }
-    None
+    task.accesses()
+        .iter()
+        .skip(from as usize)
+        .position(passes)
+        .map(|at| from + at as u8)
 }

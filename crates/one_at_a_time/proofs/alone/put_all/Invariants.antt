@@ -6,8 +6,10 @@ use Rattle.one_at_a_time.proofs.alone.put_all.Given as goal
 
 -- what is left to put from here comes to what all comes to from the start
 abbrev pub invariant-loop-i : goal.invariant-loop-i
-invariant-loop-i g l =
-    (vec_len l.wrote ≤ l.i) × (15 ≤ vec_capacity l.wrote)
-    × (g.H.Host.fixed l.host ≡ g.H.Host.fixed l.initial.host)
-    × AllHeld (g.H.Host.fixed l.initial.host) (drop l.i l.accesses)
-    × Putting (g.H.Host.fixed l.initial.host) l.kind l.n (g.H.Host.values l.initial.host) (writers l.accesses) (numbered writes l.i (drop l.i l.accesses)) (vec_items l.wrote) (g.H.Host.values l.host)
+invariant-loop-i g l = record {
+  few : vec_len l.wrote ≤ l.i;
+  room : 15 ≤ vec_capacity l.wrote;
+  fixed : g.H.Host.fixed l.host ≡ g.H.Host.fixed l.initial.host;
+  held : AllHeld (g.H.Host.fixed l.initial.host) (drop l.i l.accesses);
+  put : Putting (g.H.Host.fixed l.initial.host) l.task.kind l.n (g.H.Host.values l.initial.host) (writers l.accesses) (numbered writes l.i (drop l.i l.accesses)) (vec_items l.wrote) (g.H.Host.values l.host);
+}
