@@ -1,1 +1,3 @@
+mod Same
+pub mod Steps
 pub mod Turns

@@ -3,17 +3,19 @@
 #![tactic(auto)]
 
 mod methods;
+mod window;
 
-ghost use Rattle.std.specs.Prelude.{ℕ, ◌-◌, ◌≤◌, length};
+ghost use Rattle.std.specs.Prelude.{length};
+ghost use Rattle.queue.specs.Window.{Within};
 
-// The elements stand in the slots from head on, round the end of the slots.
+pub use window::Window;
+
+// The elements stand in those of the slots that are in use.
 #[derive(Drop)]
 pub struct Line<'a, T: Copy> {
     slots: &'a mut [T],
-    head: usize,
-    len: usize,
-    ghost few: { len ≤ length slots.now },
-    ghost within: { head ≤ length slots.now - 1 },
+    window: Window,
+    ghost within: { Within window (length slots.now) },
 }
 
 // What a worker sends back: the seat whose task it has done, and its own number.

@@ -4,6 +4,7 @@ ghost use Rattle.fault.specs.declared.ManagerFault.TheVariants.{LineEmpty, LineF
 ghost use Rattle.queue.specs.Model.{contents_of, slots_of, full, slot_after};
 
 use crate::Line;
+use crate::window::Window;
 use fault::ManagerFault;
 
 impl<'a, T: Copy> Line<'a, T> {
@@ -15,8 +16,7 @@ impl<'a, T: Copy> Line<'a, T> {
     {
         Line {
             slots,
-            head: 0,
-            len: 0,
+            window: Window::new(),
         }
     }
 
@@ -24,15 +24,14 @@ impl<'a, T: Copy> Line<'a, T> {
     pub fn len(&self) -> usize
         ensures { result ≡ length (contents_of self.now) }
     {
-        let elements = self.len;
-        elements
+        self.window.len
     }
 
     // Whether there is an element in every slot.
     pub fn is_full(&self) -> bool
         ensures { result ≡ full self.now }
     {
-        self.slots.len() == self.len
+        self.len() == self.slots.len()
     }
 
     // Puts an element at the end, into one slot, or refuses where the line is full.
@@ -43,17 +42,10 @@ impl<'a, T: Copy> Line<'a, T> {
         ensures refused { full self.old ≡ true → self.new ≡ self.old }
         ensures lent { self.new.slots.ghost_name ≡ self.old.slots.ghost_name }
     {
-        if self.len == self.slots.len() {
+        let Some(at) = self.window.push(self.slots.len()) else {
             return Err(ManagerFault::LineFull);
-        }
-        let room = self.slots.len() - self.head;
-        let at = if self.len < room {
-            self.head + self.len
-        } else {
-            self.len - room
         };
         self.slots[at] = x;
-        self.len += 1;
         Ok(())
     }
 
@@ -63,16 +55,9 @@ impl<'a, T: Copy> Line<'a, T> {
         ensures slots { slots_of self.new ≡ slots_of self.old }
         ensures lent { self.new.slots.ghost_name ≡ self.old.slots.ghost_name }
     {
-        if self.len == 0 {
+        let Some(at) = self.window.pop(self.slots.len()) else {
             return Err(ManagerFault::LineEmpty);
-        }
-        let x = self.slots[self.head];
-        self.head = if self.head + 1 < self.slots.len() {
-            self.head + 1
-        } else {
-            0
         };
-        self.len -= 1;
-        Ok(x)
+        Ok(self.slots[at])
     }
 }

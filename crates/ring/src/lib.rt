@@ -1,19 +1,23 @@
-// A ring: first in, first out, in 256 places of its own, for every element that can be copied.
+// A ring: first in, first out, in 256 slots of its own, for every element that can be copied.
 #![tactic(auto)]
 
 mod copies;
 mod methods;
 
-ghost use Rattle.std.specs.Prelude.{◌≡◌, ℕ, ◌<◌, ◌≤◌, length};
+ghost use Rattle.std.specs.Prelude.{◌≡◌, length};
+ghost use Rattle.queue.specs.Window.{Within};
 ghost use Rattle.ring.specs.Capacity.{capacity};
 
-// The elements stand in the slots from head on, round the end of the slots.
+use queue::Window;
+
+// How many slots a ring has.
+const CAPACITY: usize = 256;
+
+// The elements stand in those of the slots that are in use.
 #[derive(Copy)]
 pub struct Ring<T: Copy> {
-    slots: [T; 256],
-    head: u8,
-    len: u16,
-    ghost room: { len ≤ capacity },
+    slots: [T; CAPACITY],
+    window: Window,
     ghost whole: { length slots ≡ capacity },
-    ghost low: { head < capacity },
+    ghost within: { Within window capacity },
 }

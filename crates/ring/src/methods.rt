@@ -3,7 +3,8 @@ ghost use Rattle.std.specs.Prelude.{◌≡◌, false, [], ◌∷◌, ◌++◌, l
 ghost use Rattle.ring.specs.Capacity.{capacity};
 ghost use Rattle.ring.specs.Model.{contents_of, first_of};
 
-use crate::Ring;
+use crate::{CAPACITY, Ring};
+use queue::Window;
 
 impl<T: Copy> Ring<T> {
     // A ring with no element; the filler stands in every slot until an element is put there.
@@ -11,9 +12,8 @@ impl<T: Copy> Ring<T> {
         ensures { contents_of result ≡ [] }
     {
         Ring {
-            slots: [filler; 256],
-            head: 0,
-            len: 0,
+            slots: [filler; CAPACITY],
+            window: Window::new(),
         }
     }
 
@@ -21,17 +21,14 @@ impl<T: Copy> Ring<T> {
     pub fn len(&self) -> usize
         ensures { result ≡ length (contents_of self.now) }
     {
-        self.len as usize
+        self.window.len
     }
 
     // The element that is first, if there is one.
     pub fn first(&self) -> Option<T>
         ensures { result ≡ first_of (contents_of self.now) }
     {
-        if self.len == 0 {
-            return None;
-        }
-        let place = self.head as usize;
+        let place = self.window.first()?;
         Some(self.slots[place])
     }
 
@@ -41,12 +38,10 @@ impl<T: Copy> Ring<T> {
         ensures contents { contents_of self.new ≡ (if result then contents_of self.old ++ (x ∷ []) else contents_of self.old) }
         ensures refused { result ≡ false → self.new ≡ self.old }
     {
-        if self.len == 256 {
+        let Some(at) = self.window.push(CAPACITY) else {
             return false;
-        }
-        let at = (self.head as usize + self.len as usize) % 256;
+        };
         self.slots[at] = x;
-        self.len += 1;
         true
     }
 
@@ -54,12 +49,7 @@ impl<T: Copy> Ring<T> {
     pub fn pop(&mut self) -> Option<T>
         ensures cases { MatchOption result ((contents_of self.old ≡ []) × (self.new ≡ self.old)) (λ x. contents_of self.old ≡ x ∷ contents_of self.new) }
     {
-        if self.len == 0 {
-            return None;
-        }
-        let x = self.slots[self.head as usize];
-        self.head = self.head.wrapping_add(1);
-        self.len -= 1;
-        Some(x)
+        let at = self.window.pop(CAPACITY)?;
+        Some(self.slots[at])
     }
 }

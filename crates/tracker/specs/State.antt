@@ -1,8 +1,7 @@
 -- What a lock stands for. Assumes nothing.
-use Rattle.std.specs.Prelude.{false, replicate, refl}
-use Rattle.std.proofs.Common.{lit<, lit≤}
+use Rattle.std.specs.Prelude.{false}
 use Rattle.claims.specs.Claims.{State}
-use Rattle.ring.specs.Model.{contents_of}
+use Rattle.ring.specs.Model.{contents_of, empty}
 use Rattle.tracker.specs.declared.lock.Lock.{Lock}
 
 -- how many hold the address, whether they write, and who waits
@@ -15,5 +14,5 @@ blank =
     record {
       holders = 0;
       writing = false;
-      waiting = record { slots = replicate 256 (record { seat = 0; writes = false }); head = 0; len = 0; room = lit≤ tt; whole = refl; low = lit< tt };
+      waiting = empty (record { seat = 0; writes = false });
     }

@@ -1,20 +1,16 @@
-use Rattle.std.proofs.Common.{◌≡◌, suc, ◌-◌, List, ◌∷◌, get_or, refl, ap, ◌∙◌, add-one, arith}
-use Rattle.queue.specs.Contents.{contents}
-use Rattle.queue.proofs.Turns.{popped, round_turn}
+use Rattle.std.proofs.Common.{length, sym, refl}
+use Rattle.queue.proofs.Same.{same_line}
+use Rattle.queue.proofs.Steps.{window_empty, window_popped}
 use Rattle.queue.proofs.Line.pop.Goals as goal
-use Rattle.queue.proofs.Line.pop.Goals.{then-self, else-self}
 
-pub returns : goal.returns
-returns g c =
-    let xs = c.args.self.now.slots.now in
-    let h = c.args.self.now.head in
-    let n = c.args.self.now.len in
-    let d = c.index-self-self.result in
-    let more : n ≡ suc (n - 1) = omega arith in
-    let first : contents xs h n ≡ get_or xs h d ∷ contents xs (suc h) (n - 1) = ap (contents xs h) more ∙ popped xs h (n - 1) d (omega arith) (omega arith) in
-    let next : contents xs (suc h) (n - 1) ≡ contents xs c.if-self.self (n - 1) =
-    elim c.if-self.branch [
-      | then-self w ↦ rw (w.self-is, add-one)
-      | else-self w ↦ rw w.self-is (round_turn xs (n - 1) (suc h) (omega arith))
-    ] in
-    record { cases = first ∙ ap (λ (ys : List _). get_or xs h d ∷ ys) next; slots = refl; lent = refl }
+pub returns-in_default-clause-cases : goal.returns-in_default-clause-cases
+returns-in_default-clause-cases g c =
+    let l = c.args.self.now in
+    let why = c.in_default.ensures.cases in
+    (refl, window_empty l.slots.now l.window why.0, same_line l c.pop.new.self _ (sym why.1))
+
+pub returns-clause-cases : goal.returns-clause-cases
+returns-clause-cases g c =
+    let l = c.args.self.now in
+    let taken = c.in-Some.ensures.cases in
+    window_popped l.slots.now (length l.slots.now) l.window c.pop.new.self c.in-Some.at c.index-self-at.result refl l.within taken.0 taken.1 taken.3
