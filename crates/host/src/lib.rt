@@ -1,18 +1,25 @@
 // The host interface: where values live and work is done, stated by its meaning.
 #![tactic(auto)]
 
+pub mod array_host;
 pub mod seat_values;
+mod work;
 
 ghost use Rattle.std.specs.Prelude.{◌≡◌, ◌&&◌, if◌then◌else◌, Some, None, nat_lt};
 ghost use Rattle.host.specs.Meaning.{Fixed, Values, brought, stored, seats, positions};
 
+pub use array_host::ArrayHost;
 pub use seat_values::SeatValues;
+pub use work::Work;
 
 // How many seats have values held aside.
 pub const SEATS: usize = 256;
 
 // How many positions each seat has: one for each access that a task may have.
 pub const POSITIONS: usize = 15;
+
+// How many values a host has at most.
+pub const MAX_VALUES: usize = 4096;
 
 // A host holds some addresses with a value at each, and for each seat and position a value held aside.
 // Which addresses it holds never changes, nor does its work rule.

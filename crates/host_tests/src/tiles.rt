@@ -1,4 +1,8 @@
+ghost use Rattle.std.specs.Prelude.{◌≡◌, min, length, IfOk};
+ghost use Rattle.tile_host.specs.Tiles.{max_tiles, count_of, fixed_of, values_of, fixed_for, values_from};
+
 use host::{Host, ReadBack};
+use std::alloc::{AllocError, Global};
 use std::test::Fail;
 use tile_host::{Tile, TileHost, tile_rule};
 
@@ -9,6 +13,15 @@ const DARK: Tile = Tile {
 const LIGHT: Tile = Tile {
     channels: [4, 2, 0, 65_534],
 };
+
+// A host of the handed tiles, said in the words for tiles.
+fn of_tiles(heap: Global, tiles: &[Tile]) -> Result<TileHost, AllocError>
+    ensures count { IfOk result (λ h. count_of h ≡ min (length tiles.now) max_tiles) }
+    ensures fixed { IfOk result (λ h. fixed_of h ≡ fixed_for (length tiles.now)) }
+    ensures values { IfOk result (λ h. values_of h ≡ values_from tiles.now) }
+{
+    TileHost::new(heap, tiles)
+}
 
 #[test]
 fn the_rule_goes_by_the_kind(rt: HostRuntime) {
@@ -25,7 +38,7 @@ fn the_rule_goes_by_the_kind(rt: HostRuntime) {
 
 #[test]
 fn a_host_holds_the_multiples_of_16(rt: HostRuntime) -> Result<(), Fail> {
-    let mut host = TileHost::new(rt.alloc(), &[DARK, LIGHT])?;
+    let mut host = of_tiles(rt.alloc(), &[DARK, LIGHT])?;
     assert!(rt; host.holds(0) && host.holds(16));
     assert!(rt; !host.holds(1) && !host.holds(15) && !host.holds(32) && !host.holds(u64::MAX));
     host.bring(0, 3, 0);

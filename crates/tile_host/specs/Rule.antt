@@ -1,8 +1,8 @@
 -- The work rule of tiles: a tile made from a kind and a list of tiles. Assumes nothing.
 use Rattle.std.specs.Prelude.{ℕ, ◌/◌, max, cond, List, [], ◌∷◌, length, fold, sum_by, ◌==◌, slice_index}
 use Rattle.tile_host.specs.declared.Tile.{Tile}
-use Rattle.tile_host.specs.declared.rule.Work.{Work}
-use Rattle.tile_host.specs.declared.rule.Work.TheVariants.{Zeros, Average, Maximum, First}
+use Rattle.tile_host.specs.declared.rule.Kind.{Kind}
+use Rattle.tile_host.specs.declared.rule.Kind.TheVariants.{Zeros, Average, Maximum, First}
 
 -- the number in a channel of a tile
 abbrev pub channel : ℕ → Tile → ℕ
@@ -24,9 +24,9 @@ tile_of f = record { channels = f 0 ∷ f 1 ∷ f 2 ∷ f 3 ∷ [] }
 abbrev pub blank : Tile
 blank = tile_of (λ c. 0)
 
--- what a kind asks for
-abbrev pub work_of : ℕ → Work
-work_of kind = cond (kind == 0) Zeros (cond (kind == 1) Average (cond (kind == 2) Maximum First))
+-- the kind of work that a number stands for
+abbrev pub kind_of : ℕ → Kind
+kind_of number = cond (number == 0) Zeros (cond (number == 1) Average (cond (number == 2) Maximum First))
 
 -- kind 0: zeros; kind 1: each channel's average, rounded down; kind 2: each channel's maximum; any other: the first value;
 -- and zeros for no value

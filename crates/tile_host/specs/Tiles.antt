@@ -1,40 +1,35 @@
 -- What a host of tiles means: the tiles at the multiples of 16 from 0 on, and the tiles held aside. Assumes nothing.
-use Rattle.std.specs.Prelude.{ℕ, ◌/◌, ◌%◌, min, Bool, cond, ◌&&◌, List, length, vec_items, vec_len, ◌==◌, nat_lt, slice_index_or}
+use Rattle.std.specs.Prelude.{ℕ, List}
+use Rattle.host.specs.ArrayHost as hosts
+use Rattle.host.specs.Limit.{max_values}
 use Rattle.host.specs.Meaning.{Fixed, Values}
-use Rattle.host.specs.SeatValues.{aside_of}
-use Rattle.tile_host.specs.Limit.{max_tiles}
+use Rattle.host.specs.declared.array_host.ArrayHost.{ArrayHost}
+use Rattle.host.specs.declared.work.Work.{Ghosts}
 use Rattle.tile_host.specs.Rule.{blank, tile_rule}
 use Rattle.tile_host.specs.declared.Tile.{Tile}
-use Rattle.tile_host.specs.declared.TileHost.{TileHost}
 
--- whether one of n tiles is at the address
-abbrev pub held_by : ℕ → ℕ → Bool
-held_by n a = a % 16 == 0 && nat_lt (a / 16) n
+-- how many tiles a host has at most
+abbrev pub max_tiles : ℕ
+max_tiles = max_values
 
--- what is fixed of a host with n tiles: it holds an address for each, and its rule takes no account of the access number
-abbrev pub fixed_by : ℕ → Fixed Tile
-fixed_by n = record { held = held_by n; rule = λ kind access values. tile_rule kind values }
-
--- the tile of a list at each of the first n addresses, and the blank tile at every other address
-abbrev pub tile_at : ℕ → List Tile → ℕ → Tile
-tile_at n tiles a = cond (held_by n a) (slice_index_or tiles (a / 16) blank) blank
-
--- what is fixed of a host that is made of n tiles, or of max_tiles if n is more
+-- what is fixed of a host that is made of n tiles, or of max_tiles if n is more: it holds an address for each, and its rule
+-- takes no account of the access number
 abbrev pub fixed_for : ℕ → Fixed Tile
-fixed_for n = fixed_by (min n max_tiles)
+fixed_for n = hosts.fixed_for 16 (λ kind access values. tile_rule kind values) n
 
 -- the tiles of a list at the held addresses, the blank tile at every other address, and blank tiles held aside
 abbrev pub values_from : List Tile → Values Tile
-values_from tiles = record { at = tile_at (min (length tiles) max_tiles) tiles; aside = λ s p. blank }
+values_from tiles = hosts.values_from 16 blank tiles
 
--- how many tiles a host has
-abbrev pub count_of : TileHost → ℕ
-count_of h = vec_len h.tiles
+module _ {W : Type 0} {g : Ghosts W Tile} where
+  -- how many tiles a host has
+  abbrev pub count_of : ArrayHost W Tile g → ℕ
+  count_of h = hosts.count_of h
 
--- what is fixed of a host
-abbrev pub fixed_of : TileHost → Fixed Tile
-fixed_of h = fixed_by (count_of h)
+  -- what is fixed of a host
+  abbrev pub fixed_of : ArrayHost W Tile g → Fixed Tile
+  fixed_of h = hosts.fixed_of h
 
--- the values of a host: its tiles at the held addresses, the blank tile at every other address, and the tiles held aside
-abbrev pub values_of : TileHost → Values Tile
-values_of h = record { at = tile_at (count_of h) (vec_items h.tiles); aside = aside_of blank h.aside }
+  -- the values of a host: its tiles at the held addresses, the blank tile at every other address, and the tiles held aside
+  abbrev pub values_of : ArrayHost W Tile g → Values Tile
+  values_of h = hosts.values_of h

@@ -1,13 +1,14 @@
 // The work rule of tiles.
 ghost use Rattle.std.specs.Prelude.{◌≡◌, ℕ, ◌/◌, ◌<◌, length};
-ghost use Rattle.tile_host.specs.Rule.{total, highest, blank, work_of, tile_of, tile_rule};
+ghost use Rattle.tile_host.specs.Rule.{total, highest, kind_of, tile_rule};
 
-use crate::{CHANNELS, Tile};
+use crate::{Tile, Tiles};
+use host::Work;
 use std::array;
 
-// What a kind of work asks for.
+// The kinds of work.
 #[derive(Clone, Copy, Debug, PartialEq, Eq)]
-enum Work {
+enum Kind {
     // Zeros.
     Zeros,
     // Each channel's average, rounded down.
@@ -18,26 +19,17 @@ enum Work {
     First,
 }
 
-// The work that a kind asks for.
-impl From<u32> for Work {
-    ghost from_gives = { λ kind w. w ≡ work_of kind };
+// The kind of work that a number stands for.
+impl From<u32> for Kind {
+    ghost from_gives = { λ number kind. kind ≡ kind_of number };
 
-    fn from(kind: u32) -> Work {
-        match kind {
-            0 => Work::Zeros,
-            1 => Work::Average,
-            2 => Work::Maximum,
-            _ => Work::First,
+    fn from(number: u32) -> Kind {
+        match number {
+            0 => Kind::Zeros,
+            1 => Kind::Average,
+            2 => Kind::Maximum,
+            _ => Kind::First,
         }
-    }
-}
-
-// The tile with 0 in every channel.
-pub(crate) fn blank_tile() -> Tile
-    ensures { result ≡ blank }
-{
-    Tile {
-        channels: [0; CHANNELS],
     }
 }
 
@@ -70,16 +62,16 @@ pub fn tile_rule(kind: u32, values: &[Tile]) -> Tile
     ensures { result ≡ tile_rule kind values.now }
 {
     let [first, ..] = values else {
-        return blank_tile();
+        return Tiles::blank();
     };
-    match Work::from(kind) {
-        Work::Zeros => blank_tile(),
-        Work::Average => Tile {
+    match Kind::from(kind) {
+        Kind::Zeros => Tiles::blank(),
+        Kind::Average => Tile {
             channels: array::from_fn(|channel| average(values, channel)),
         },
-        Work::Maximum => Tile {
+        Kind::Maximum => Tile {
             channels: array::from_fn(|channel| maximum(values, channel)),
         },
-        Work::First => *first,
+        Kind::First => *first,
     }
 }
