@@ -13,6 +13,7 @@ ghost use Rattle.tracker.specs.Departures.{Leaves, Departed, Ready, Drained, Wok
 
 use crate::span::Span;
 use crate::tracker::Tracker;
+use crate::ways::Way;
 use acceptance::Acceptance;
 use task::Access;
 
@@ -42,9 +43,8 @@ impl Tracker {
     }
 
     // All that may hold the address at a way do, and each of their seats has one access fewer that waits.
-    fn drain(&mut self, way: usize, order: &Acceptance, span: &mut Span)
-        requires { way < 512 }
-        ensures drained { Ready self.old way → Drained self.old self.new way }
+    fn drain(&mut self, way: Way, order: &Acceptance, span: &mut Span)
+        ensures drained { Ready self.old way.number → Drained self.old self.new way.number }
         ensures woken { Woken self.old self.new order.now span.old span.new }
     {
         while let Some(seat) = self.table.promote_at(way) {
@@ -53,31 +53,18 @@ impl Tracker {
     }
 
     // A holder of the address at a way leaves, with the version that falls free.
-    fn release(&mut self, way: usize)
-        requires { way < 512 }
+    fn release(&mut self, way: Way)
         ensures tags { self.new.table.tags.items ≡ self.old.table.tags.items }
         ensures live { self.new.table.live.items ≡ self.old.table.live.items }
-        ensures here { state_of (lock_at self.new.table way) ≡ dropped (state_of (lock_at self.old.table way)) }
-        ensures others { (i : ℕ) → (i ≢ way) → lock_at self.new.table i ≡ lock_at self.old.table i }
+        ensures here { state_of (lock_at self.new.table way.number) ≡ dropped (state_of (lock_at self.old.table way.number)) }
+        ensures others { (i : ℕ) → (i ≢ way.number) → lock_at self.new.table i ≡ lock_at self.old.table i }
         ensures counts { self.new.blocked.items ≡ self.old.blocked.items }
-        ensures versions { self.new.used ≡ self.old.used - freed (state_of (lock_at self.old.table way)) }
+        ensures versions { self.new.used ≡ self.old.used - freed (state_of (lock_at self.old.table way.number)) }
     {
         if self.table.frees(way) {
             self.used = self.used.saturating_sub(1);
         }
         self.table.release_at(way);
-    }
-
-    // If nobody holds the address at a way any more, the set has one live address fewer.
-    fn close(&mut self, way: usize)
-        requires { way < 512 }
-        ensures tags { self.new.table.tags.items ≡ self.old.table.tags.items }
-        ensures locks { self.new.table.locks.items ≡ self.old.table.locks.items }
-        ensures live { (z : ℕ) → live_at self.new.table z ≡ live_at self.old.table z - tally (way % 64 == z && not (nat_lt 0 (lock_at self.old.table way).holders)) }
-        ensures counts { self.new.blocked.items ≡ self.old.blocked.items }
-        ensures versions { self.new.used ≡ self.old.used }
-    {
-        self.table.close(way);
     }
 
     // A holder of an address leaves, and all that may hold the address then do.
@@ -90,7 +77,7 @@ impl Tracker {
         };
         self.release(way);
         self.drain(way, order, span);
-        self.close(way);
+        self.table.close(way);
     }
 
     // A task that no earlier task blocks leaves the tables. The places of the seats that are no longer blocked then are covered.

@@ -14,12 +14,13 @@ pub returns-then-is_live : goal.returns-then-is_live
 returns-then-is_live c M t few size =
     let w = c.args.self.now in
     let w' = c.claim_at-holds.new.self in
-    let i = c.in-Some.way in
-    let f = c.in-Some.ensures in
+    let i = c.in-Some.way.number in
+    let lt = c.in-Some.way.low in
+    let placed = c.in-Some.ensures in
     let e = c.claim_at-holds.ensures in
     let up : ltb 0 (lock_at w i).holders ≡ true = sym c.is_live.ensures ∙ c.if-is_live.true in
-    let lv : i < length (vec_items w.tags) = omega (arith, w.tags.ok.0, w.tagged, f.0) in
-    joins w w' M c.args.address i c.args.claim (record { fresh = false; holds = c.claim_at-holds.result }) f.0 lv t f.1 size
+    let lv : i < length (vec_items w.tags) = omega (arith, w.tags.ok.0, w.tagged, lt) in
+    joins w w' M c.args.address i c.args.claim (record { fresh = false; holds = c.claim_at-holds.result }) lt lv t placed size
     e.tags e.here e.others
     (λ z zl. ap (λ ns. get_or ns z 0) e.live ∙ count_same (live_at w z) (eqb (i % 64) z) (ltb 0 (lock_at w i).holders) up)
     (ap not (sym up)) e.answer
@@ -30,17 +31,20 @@ returns c M t few size =
     let w = c.args.self.now in
     let w₁ = c.claim_at-holds-2.new.self in
     let w' = c.count_up.new.self in
-    let i = c.in-Some.way in
-    let f = c.in-Some.ensures in
+    let i = c.in-Some.way.number in
+    let lt = c.in-Some.way.low in
+    let placed = c.in-Some.ensures in
     let e = c.claim_at-holds-2.ensures in
     let u = c.count_up.ensures in
     let down : ltb 0 (lock_at w i).holders ≡ false = sym c.is_live.ensures ∙ c.if-is_live.false in
-    let lv : i < length (vec_items w.tags) = omega (arith, w.tags.ok.0, w.tagged, f.0) in
+    let lv : i < length (vec_items w.tags) = omega (arith, w.tags.ok.0, w.tagged, lt) in
     let at : (z : ℕ) → live_at w₁ z ≡ live_at w z = λ z. ap (λ ns. get_or ns z 0) e.live in
-    let low : live_at w₁ (i % 64) < 255 = (let k = t.counted (i % 64) (omega arith) in let m = most_live w (i % 64) 8 in let a = at (i % 64) in omega (arith, k, m, a)) in
-    joins w w' M c.args.address i c.args.claim (record { fresh = true; holds = c.claim_at-holds-2.result }) f.0 lv t f.1 size
+    let s = c.set.result.number in
+    let home : s ≡ i % 64 = c.set.ensures in
+    let low : live_at w₁ s < 255 = (let k = t.counted s c.set.result.low in let m = most_live w s 8 in let a = at s in omega (arith, k, m, a)) in
+    joins w w' M c.args.address i c.args.claim (record { fresh = true; holds = c.claim_at-holds-2.result }) lt lv t placed size
     (u.tags ∙ e.tags)
     (λ p q. ap (λ (ls : List Lock). state_of (get_or ls i blank)) u.locks ∙ e.here p q)
     (λ j ne. ap (λ (ls : List Lock). get_or ls j blank) u.locks ∙ e.others j ne)
-    (λ z zl. count_more (live_at w' z) (live_at w z) (eqb (i % 64) z) (ltb 0 (lock_at w i).holders) down (u.live low z ∙ ap (λ n. cond (eqb (i % 64) z) (n + 1) n) (at z)))
+    (λ z zl. count_more (live_at w' z) (live_at w z) (eqb (i % 64) z) (ltb 0 (lock_at w i).holders) down (u.live low z ∙ ap (λ n. cond (eqb n z) (live_at w₁ z + 1) (live_at w₁ z)) home ∙ ap (λ n. cond (eqb (i % 64) z) (n + 1) n) (at z)))
     (ap not (sym down)) e.answer
