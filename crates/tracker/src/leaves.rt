@@ -6,10 +6,10 @@ ghost use Rattle.roll.specs.Tables.{tally};
 ghost use Rattle.claims.specs.Claims.{State, dropped, freed};
 ghost use Rattle.claims.specs.Queues.{bare};
 ghost use Rattle.tracker.specs.State.{state_of};
-ghost use Rattle.tracker.specs.Table.{Table, lock_at, live_at};
+ghost use Rattle.tracker.specs.Table.{Table, ChangesOnlyWay, tag_at, lock_at};
 ghost use Rattle.tracker.specs.Covered.{Covered};
 ghost use Rattle.tracker.specs.Tracked.{Tracked, blocked_at};
-ghost use Rattle.tracker.specs.Departures.{Leaves, Departed, Ready, Drained, Woken};
+ghost use Rattle.tracker.specs.Departures.{Leaves, Departed, Ready, Drained, Lowered, Woken};
 
 use crate::span::Span;
 use crate::tracker::Tracker;
@@ -20,9 +20,7 @@ use task::Access;
 impl Tracker {
     // One access fewer of the seat's task waits. Is it the last?
     fn lower(&mut self, seat: u8) -> bool
-        ensures table { self.new.table ≡ self.old.table }
-        ensures versions { self.new.used ≡ self.old.used }
-        ensures counts { (s : ℕ) → blocked_at self.new s ≡ blocked_at self.old s - tally (seat == s) }
+        ensures lowered { Lowered self.old self.new seat }
         ensures last { result ≡ (blocked_at self.new seat == 0) }
     {
         let left = self.blocked[seat as usize].saturating_sub(1);
@@ -32,9 +30,7 @@ impl Tracker {
 
     // One access fewer of the seat's task waits; after the last, the seat's place is covered.
     fn unblock(&mut self, seat: u8, order: &Acceptance, span: &mut Span)
-        ensures table { self.new.table ≡ self.old.table }
-        ensures versions { self.new.used ≡ self.old.used }
-        ensures counts { (s : ℕ) → blocked_at self.new s ≡ blocked_at self.old s - tally (seat == s) }
+        ensures lowered { Lowered self.old self.new seat }
         ensures woken { Woken self.old self.new order.now span.old span.new }
     {
         if self.lower(seat) {
@@ -54,10 +50,9 @@ impl Tracker {
 
     // A holder of the address at a way leaves, with the version that falls free.
     fn release(&mut self, way: Way)
-        ensures tags { self.new.table.tags.items ≡ self.old.table.tags.items }
-        ensures live { self.new.table.live.items ≡ self.old.table.live.items }
+        ensures tag { tag_at self.new.table way.number ≡ tag_at self.old.table way.number }
         ensures here { state_of (lock_at self.new.table way.number) ≡ dropped (state_of (lock_at self.old.table way.number)) }
-        ensures others { (i : ℕ) → (i ≢ way.number) → lock_at self.new.table i ≡ lock_at self.old.table i }
+        ensures rest { ChangesOnlyWay self.old.table self.new.table way.number }
         ensures counts { self.new.blocked.items ≡ self.old.blocked.items }
         ensures versions { self.new.used ≡ self.old.used - freed (state_of (lock_at self.old.table way.number)) }
     {

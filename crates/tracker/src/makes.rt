@@ -5,7 +5,7 @@ ghost use Rattle.tracker.specs.Tracked.{Tracked};
 
 use crate::lock::Lock;
 use crate::tracker::{SEATS, Tracker};
-use crate::ways::{AddressTable, SETS, TOTAL};
+use crate::ways::{AddressTable, SETS, Slot, TOTAL};
 use std::alloc::{AllocError, Global};
 
 impl AddressTable {
@@ -13,10 +13,13 @@ impl AddressTable {
     pub(crate) fn new(heap: Global) -> Result<AddressTable, AllocError>
         ensures { IfOk result (λ w. Unused w) }
     {
-        let tags = vec![in heap; 0u64; TOTAL]?;
-        let locks = vec![in heap; Lock::new(); TOTAL]?;
+        let free = Slot {
+            address: 0,
+            lock: Lock::new(),
+        };
+        let slots = vec![in heap; free; TOTAL]?;
         let live = vec![in heap; 0u8; SETS]?;
-        Ok(AddressTable { tags, locks, live })
+        Ok(AddressTable { slots, live })
     }
 }
 

@@ -24,14 +24,19 @@ pub(crate) struct Way {
     ghost low: { number < 512 },
 }
 
-// For each way its address and the lock of that address, and for each set how many of its ways are live.
+// What stands at a way: an address and its lock.
+#[derive(Clone, Copy)]
+pub struct Slot {
+    pub(crate) address: u64,
+    pub(crate) lock: Lock,
+}
+
+// What stands at each way, and for each set how many of its ways are live.
 #[derive(Drop)]
 pub struct AddressTable {
-    pub(crate) tags: Vec<u64>,
-    pub(crate) locks: Vec<Lock>,
+    pub(crate) slots: Vec<Slot>,
     pub(crate) live: Vec<u8>,
-    ghost tagged: { vec_len tags ≡ 512 },
-    ghost locked: { vec_len locks ≡ 512 },
+    ghost whole: { vec_len slots ≡ 512 },
     ghost counted: { vec_len live ≡ 64 },
 }
 

@@ -23,6 +23,6 @@ returns c =
     let sp' = c.drain.new.span in
     record {
       departed = λ M table l. departs t t₁ t₂ _ M c.args.address c.in-Some.way.number c.in-Some.way.low f.0 f.1 table l
-          r.tags r.live r.here r.others r.counts r.versions c.drain.ensures.drained k.tags k.locks k.live refl refl;
+          r.tag r.here r.rest r.counts r.versions c.drain.ensures.drained k.ways k.live refl refl;
       woken = woken_end t t₂ _ o sp sp' refl (woken_same t t₁ t₂ o sp sp' r.counts c.drain.ensures.woken);
     }
