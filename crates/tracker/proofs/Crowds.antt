@@ -1,11 +1,13 @@
 -- The lowest of some sets that is crowded, and counting the accesses of a list by going through it. Assumes nothing.
 --
 --   crowded_none, crowded_some, crowded_alike    whether a set is crowded
---   tried_here, tried_later, tried_all           the lowest crowded set, found by going up from 0
+--   crowded_adds                                 the lowest crowded set, when one count grows
 --   needs_more, fresh_more and so on             a count along a list, with what is left of the list
 --   stall_short, stall_full                      too few versions; the lowest set without room
-use Rattle.std.proofs.Common.{◌≡◌, ℕ, zero, suc, ◌+◌, ◌-◌, ◌%◌, ◌<◌, ◌≤◌, Bool, true, false, cond, not, ◌&&◌, ◌||◌, eqb, ltb, List, [], ◌∷◌, length, get_or, drop, set, is_some, Some, None, Option, sym, refl, ap, ◌∙◌, ap₂, ⊎_elim, add-one, arith, get_or-set_other, get_or-set_same}
-use Rattle.std.proofs.lemmas.Bool.{cases_eq, lt-ltb, le-ltb, cond-true, cond-false, eq-eqb, ne_eqb}
+use Rattle.std.proofs.Common.{◌≡◌, ℕ, zero, suc, ◌+◌, ◌-◌, ◌%◌, ◌<◌, ◌≤◌, min, Bool, true, false, cond, not, ◌&&◌, ◌||◌, eqb, ltb, List, [], ◌∷◌, length, get_or, drop, is_some, Some, None, Option, sym, refl, ap, ◌∙◌, ap₂, ⊎_elim, arith}
+use Rattle.std.proofs.Math.Bool.{and-true}
+use Rattle.std.specs.Option.{option_map_or}
+use Rattle.std.proofs.lemmas.Bool.{cases_Bool, cases_eq, lt-ltb, le-ltb, ltb-false, cond_both, cond-true, cond-false, ne_eqb}
 use Rattle.std.proofs.lemmas.List.{at_drop_more, at_drop_all}
 use Rattle.fault.specs.declared.TableFault.TheVariants.{TooFewVersions}
 use Rattle.task.specs.declared.Access.{Access}
@@ -60,25 +62,59 @@ crowded_some count z lt h = first_some (λ z. ltb 8 (count z)) 0 64 z (omega ari
 pub crowded_alike : (f g : ℕ → ℕ) → ((z : ℕ) → z < 64 → f z ≡ g z) → crowded f ≡ crowded g
 crowded_alike f g h = first_alike (λ z. ltb 8 (f z)) (λ z. ltb 8 (g z)) 0 64 (λ z lt. ap (ltb 8) (h z lt))
 
--- the lowest crowded set, where the sets below i are not
-module _ (count : ℕ → ℕ) (i : ℕ) (so_far : crowded count ≡ first_from (λ z. ltb 8 (count z)) i (64 - i)) where
-  tried : i < 64 → crowded count ≡ cond (ltb 8 (count i)) (Some i) (first_from (λ z. ltb 8 (count z)) (suc i) (64 - i - 1))
-  tried lt = let left : 64 - i ≡ suc (64 - i - 1) = omega arith in so_far ∙ ap (first_from (λ z. ltb 8 (count z)) i) left
+-- the first number at which a test holds, if it is not below s, is no lower than s
+first_above : (p : ℕ → Bool) (s i n : ℕ) → s ≤ i → option_map_or (λ z. min z s) (first_from p i n) s ≡ s
+first_above p s i zero le = refl
+first_above p s i (suc n) le =
+    cond_both (p i) (Some i) (first_from p (suc i) n) (λ (o : Option ℕ). option_map_or (λ z. min z s) o s ≡ s)
+    (λ _. omega (arith, le))
+    (λ _. first_above p s (suc i) n (omega (arith, le)))
 
-  -- set i is crowded
-  pub tried_here : i < 64 → 8 < count i → crowded count ≡ Some i
-  tried_here lt h = tried lt ∙ cond-true _ _ _ (lt-ltb 8 (count i) h)
+-- a test that holds at s too holds first at s, or where it held first before
+first_lower : (p q : ℕ → Bool) (s i n : ℕ) → i ≤ s → s < i + n → ((k : ℕ) → (k ≡ s → ⊥) → q k ≡ p k) → q s ≡ true →
+    first_from q i n ≡ Some (option_map_or (λ z. min z s) (first_from p i n) s)
+first_lower p q s i zero low high same hit = absurd (omega (arith, low, high))
+first_lower p q s i (suc n) low high same hit = ⊎_elim
+    (λ (e : i ≡ s).
+    cond-true (q i) (Some i) (first_from q (suc i) n) (ap q e ∙ hit) ∙ ap Some e
+    ∙ ap Some (sym (first_above p s i (suc n) (omega (arith, e)))))
+    (λ (ne : i ≡ s → ⊥).
+    ap (λ b. cond b (Some i) (first_from q (suc i) n)) (same i ne)
+    ∙ step (p i) (first_from p (suc i) n) (first_from q (suc i) n) (first_lower p q s (suc i) n (omega (arith, low, ne)) (omega (arith, high)) same hit))
+    (cases_eq i s)
+  where
+    step : (b : Bool) (r r' : Option ℕ) → r' ≡ Some (option_map_or (λ z. min z s) r s) → cond b (Some i) r' ≡ Some (option_map_or (λ z. min z s) (cond b (Some i) r) s)
+    step true r r' e = let least : i ≡ min i s = omega (arith, low) in ap Some least
+    step false r r' e = e
 
-  -- it is not
-  pub tried_later : i < 64 → count i ≤ 8 → crowded count ≡ first_from (λ z. ltb 8 (count z)) (i + 1) (64 - (i + 1))
-  tried_later lt h =
-      let fewer : 64 - i - 1 ≡ 64 - (i + 1) = omega arith in
-      tried lt ∙ cond-false _ _ _ (le-ltb 8 (count i) h) ∙ ap (first_from (λ z. ltb 8 (count z)) (suc i)) fewer
-      ∙ ap (λ (j : ℕ). first_from (λ z. ltb 8 (count z)) j (64 - (i + 1))) (sym (add-one i))
+-- one more of a set whose count follows: the lowest crowded set is that set, if it is crowded now and none below it was
+pub crowded_adds : (f : ℕ → ℕ) (ns ns' : List ℕ) (s l : ℕ) (full full' : Option ℕ) → s < 64 → l ≡ f s →
+    ((z : ℕ) → get_or ns' z 0 ≡ get_or ns z 0 + tally (eqb s z)) → full ≡ crowded (λ z. f z + get_or ns z 0) →
+    full' ≡ cond (ltb 8 (l + get_or ns' s 0)) (Some (option_map_or (λ z. min z s) full s)) full → full' ≡ crowded (λ z. f z + get_or ns' z 0)
+crowded_adds f ns ns' s l full full' low at more was e =
+    e ∙ ap (λ n. cond (ltb 8 (n + get_or ns' s 0)) (Some (option_map_or (λ z. min z s) full s)) full) at
+    ∙ ap (λ (o : Option ℕ). cond (ltb 8 (f s + get_or ns' s 0)) (Some (option_map_or (λ z. min z s) o s)) o) was
+    ∙ ⊎_elim
+    (λ (hit : ltb 8 (f s + get_or ns' s 0) ≡ true).
+    cond-true _ _ _ hit ∙ sym (first_lower p q s 0 64 (omega arith) low same hit))
+    (λ (miss : ltb 8 (f s + get_or ns' s 0) ≡ false).
+    cond-false _ _ _ miss ∙ first_alike p q 0 64 (λ k lt. ⊎_elim
+    (λ (here : k ≡ s). ap p here ∙ le-ltb 8 (f s + get_or ns s 0) (fewer miss) ∙ sym miss ∙ ap q (sym here))
+    (λ ne. sym (same k ne))
+    (cases_eq k s)))
+    (cases_Bool (ltb 8 (f s + get_or ns' s 0)))
+  where
+    p : ℕ → Bool
+    p z = ltb 8 (f z + get_or ns z 0)
 
-  -- none is left
-  pub tried_all : 64 ≤ i → crowded count ≡ None
-  tried_all le = let none : 64 - i ≡ 0 = omega arith in so_far ∙ ap (first_from (λ z. ltb 8 (count z)) i) none
+    q : ℕ → Bool
+    q z = ltb 8 (f z + get_or ns' z 0)
+
+    same : (k : ℕ) → (k ≡ s → ⊥) → q k ≡ p k
+    same k ne = let m = more k in let z : tally (eqb s k) ≡ 0 = ap tally (ne_eqb s k (λ e. ne (sym e))) in let e : get_or ns' k 0 ≡ get_or ns k 0 = omega (arith, m, z) in ap (λ n. ltb 8 (f k + n)) e
+
+    fewer : ltb 8 (f s + get_or ns' s 0) ≡ false → f s + get_or ns s 0 ≤ 8
+    fewer miss = let b = ltb-false 8 (f s + get_or ns' s 0) miss in let m = more s in omega (arith, b, m)
 
 -- a test counts at most once
 tally_most : (b : Bool) → tally b ≤ 1
@@ -131,35 +167,10 @@ fresh_all v z xs i m le so_far = let e : fresh (sized 0 0) v z (drop i xs) ≡ 0
 pub fresh_so_far : (v : Roll) (z : ℕ) (xs : List Access) (i m : ℕ) → m + fresh (sized 0 0) v z (drop i xs) ≡ fresh (sized 0 0) v z xs → m ≤ length xs
 fresh_so_far v z xs i m so_far = let k = fresh_most v z xs in omega (arith, so_far, k)
 
--- the access at i is still to be counted in its set
-pub fresh_left : (xs : List Access) (i : ℕ) → i < length xs → 0 < fresh (sized 0 0) [] ((get_or xs i blank).address % 64) (drop i xs)
-fresh_left xs i lt =
-    let z = (get_or xs i blank).address % 64 in
-    let s : fresh (sized 0 0) [] z (drop i xs) ≡ tally (eqb z z && true) + fresh (sized 0 0) [] z (drop (i + 1) xs) =
-    at_drop_more (fresh (sized 0 0) [] z) xs i blank lt in
-    let k : tally (eqb z z && true) ≡ 1 = ap (λ b. tally (b && true)) (eq-eqb z z refl) in
-    omega (arith, s, k)
-
--- a list of counts in which one has become one more
-pub one_more : (ns : List ℕ) (s z : ℕ) → s < length ns → get_or (set ns s (get_or ns s 0 + 1)) z 0 ≡ get_or ns z 0 + tally (eqb s z && true)
-one_more ns s z lt = ⊎_elim
-    (λ (e : z ≡ s).
-    let h : get_or (set ns s (get_or ns s 0 + 1)) z 0 ≡ get_or ns s 0 + 1 = ap (λ k. get_or (set ns s (get_or ns s 0 + 1)) k 0) e ∙ get_or-set_same ns s _ 0 lt in
-    let g : get_or ns z 0 ≡ get_or ns s 0 = ap (λ k. get_or ns k 0) e in
-    let k : tally (eqb s z && true) ≡ 1 = ap (λ b. tally (b && true)) (eq-eqb s z (sym e)) in
-    omega (arith, h, g, k))
-    (λ (ne : z ≡ s → ⊥).
-    let h = get_or-set_other ns s z (get_or ns s 0 + 1) 0 ne in
-    let k : tally (eqb s z && true) ≡ 0 = ap (λ b. tally (b && true)) (ne_eqb s z (λ e. ne (sym e))) in
-    omega (arith, h, k))
-    (cases_eq z s)
-
--- a list of counts in which one that was below a bound has become one more
-pub at_most : (ns : List ℕ) (s z n : ℕ) → s < length ns → get_or ns s 0 < n → get_or ns z 0 ≤ n → get_or (set ns s (get_or ns s 0 + 1)) z 0 ≤ n
-at_most ns s z n lt few most = ⊎_elim
-    (λ (e : z ≡ s). let h : get_or (set ns s (get_or ns s 0 + 1)) z 0 ≡ get_or ns s 0 + 1 = ap (λ k. get_or (set ns s (get_or ns s 0 + 1)) k 0) e ∙ get_or-set_same ns s _ 0 lt in omega (arith, h, few))
-    (λ (ne : z ≡ s → ⊥). let h = get_or-set_other ns s z (get_or ns s 0 + 1) 0 ne in omega (arith, h, most))
-    (cases_eq z s)
+-- a count of the accesses of a set, one access further
+pub counted : (xs : List Access) (i z m m' s : ℕ) → s ≡ (get_or xs i blank).address % 64 → i < length xs →
+    m + fresh (sized 0 0) [] z (drop i xs) ≡ fresh (sized 0 0) [] z xs → m' ≡ m + tally (eqb s z) → m' + fresh (sized 0 0) [] z (drop (i + 1) xs) ≡ fresh (sized 0 0) [] z xs
+counted xs i z m m' s e lt so_far c = fresh_more [] z xs i m m' lt so_far (c ∙ ap (λ b. m + tally b) (ap (λ n. eqb n z) e ∙ sym (and-true (eqb ((get_or xs i blank).address % 64) z))))
 
 -- what is missing, of the versions that are needed and those that are free
 pub missing_is : (n wanted taken free m : ℕ) (v : Roll) (xs : List Access) → wanted ≡ needs v xs → taken ≡ used [] v → free ≡ n - taken → m ≡ wanted - free →

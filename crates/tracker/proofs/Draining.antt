@@ -1,5 +1,5 @@
 -- What lasts while those that may hold an address become holders, and what a departure comes to. Assumes nothing.
-use Rattle.std.proofs.Common.{◌≡◌, ℕ, zero, suc, ◌+◌, ◌-◌, ◌*◌, ◌/◌, ◌%◌, ◌<◌, ◌≤◌, Bool, true, false, not, ◌&&◌, eqb, ltb, List, length, get_or, Some, None, vec_items, Option, sym, refl, ap, ◌∙◌, ⊎_elim, not-suc-le-zero, arith}
+use Rattle.std.proofs.Common.{◌≡◌, ℕ, zero, suc, ◌+◌, ◌-◌, ◌*◌, ◌/◌, ◌%◌, ◌<◌, ◌≤◌, Bool, true, false, not, ◌&&◌, eqb, ltb, List, length, get_or, Some, None, vec_items, Option, sym, refl, ap, ◌∙◌, subst, ⊎_elim, not-suc-le-zero, arith}
 use Rattle.std.proofs.lemmas.Bool.{cases_eq, eqb-true, lt-ltb}
 use Rattle.acceptance.specs.declared.Acceptance.{Acceptance}
 use Rattle.acceptance.specs.Listed.{place_of}
@@ -7,12 +7,12 @@ use Rattle.roll.specs.Tables.{tally}
 use Rattle.claims.specs.Claims.{State, claims, settled, dropped, promotes, moves, released, freed, less}
 use Rattle.claims.proofs.Moves.{some_moved, none_settled, released_is}
 use Rattle.tracker.specs.State.{state_of, blank}
-use Rattle.tracker.specs.Table.{Table, Found, lock_at, live_at, live_ways}
+use Rattle.tracker.specs.Table.{Table, Found, ChangesOnlyWay, slot_at, tag_at, lock_at, live_at, live_ways}
 use Rattle.tracker.specs.Tracked.{blocked_at}
-use Rattle.tracker.specs.Departures.{Leaves, Departed, Ready, Drained, Woken}
-use Rattle.tracker.specs.declared.lock.Lock.{Lock}
+use Rattle.tracker.specs.Departures.{Leaves, Departed, Ready, Drained, Lowered, Woken}
 use Rattle.tracker.specs.declared.span.Span.{Span}
 use Rattle.tracker.specs.declared.ways.AddressTable.{AddressTable}
+use Rattle.tracker.specs.declared.ways.Slot.{Slot}
 use Rattle.tracker.specs.declared.tracker.Tracker.{Tracker}
 use Rattle.tracker.proofs.Tables.{changed, found_placed, settle_gone, one_if}
 
@@ -41,11 +41,14 @@ pub woken_end : (t t' t₁ : Tracker) (o : Acceptance) (sp sp' : Span) → vec_i
 woken_end t t' t₁ o sp sp' e f =
     record { covered = λ s low ne z. f.covered s low ne (ap (λ bs. get_or bs s 0) (sym e) ∙ z); stays = f.stays }
 
+-- two changes of one way
+only_then : (w w₁ w₂ : AddressTable) (i : ℕ) → ChangesOnlyWay w w₁ i → ChangesOnlyWay w₁ w₂ i → ChangesOnlyWay w w₂ i
+only_then w w₁ w₂ i p q = record { others = λ j ne. q.others j ne ∙ p.others j ne; live = q.live ∙ p.live }
+
 -- since t, at way i
 pub record Draining (t t' : Tracker) (i : ℕ) : Type 0 where
-  pub tags : vec_items t'.table.tags ≡ vec_items t.table.tags
-  pub live : vec_items t'.table.live ≡ vec_items t.table.live
-  pub others : (j : ℕ) → (j ≡ i → ⊥) → lock_at t'.table j ≡ lock_at t.table j
+  pub tag : tag_at t'.table i ≡ tag_at t.table i
+  pub rest : ChangesOnlyWay t.table t'.table i
   pub versions : t'.used ≡ t.used
   pub keeps : settled (state_of (lock_at t'.table i)) ≡ settled (state_of (lock_at t.table i))
   pub few : (lock_at t'.table i).holders + length (state_of (lock_at t'.table i)).waiting ≤ 512
@@ -54,52 +57,47 @@ pub record Draining (t t' : Tracker) (i : ℕ) : Type 0 where
 
 -- at the start
 pub draining_start : (t : Tracker) (i : ℕ) → Ready t i → Draining t t i
-draining_start t i r = record { tags = refl; live = refl; others = λ j ne. refl; versions = refl; keeps = refl; few = r.few; counts = λ s low. refl; owed = r.owed }
+draining_start t i r = record { tag = refl; rest = record { others = λ j ne. refl; live = refl }; versions = refl; keeps = refl; few = r.few; counts = λ s low. refl; owed = r.owed }
 
 -- one more becomes a holder, and the count of its seat falls
-pub draining_more : (t t' t'' : Tracker) (w : AddressTable) (i : ℕ) (r : Option ℕ) (seat : ℕ) → Draining t t' i →
-    r ≡ promotes (state_of (lock_at t'.table i)) → r ≡ Some seat →
-    vec_items w.tags ≡ vec_items t'.table.tags → vec_items w.live ≡ vec_items t'.table.live →
-    ((lock_at t'.table i).holders < 1000 → state_of (lock_at w i) ≡ moves (state_of (lock_at t'.table i))) →
-    ((j : ℕ) → (j ≡ i → ⊥) → lock_at w j ≡ lock_at t'.table j) →
-    t''.table ≡ w → t''.used ≡ t'.used → ((s : ℕ) → blocked_at t'' s ≡ blocked_at t' s - tally (eqb seat s)) → Draining t t'' i
-draining_more t t' t'' w i r seat d answer e tags live here others table versions counts =
+pub draining_more : (t t' t₁ t'' : Tracker) (i : ℕ) (r : Option ℕ) (seat : ℕ) → Draining t t' i → Lowered t₁ t'' seat →
+    r ≡ promotes (state_of (lock_at t'.table i)) → r ≡ Some seat → tag_at t₁.table i ≡ tag_at t'.table i →
+    ((lock_at t'.table i).holders < 1000 → state_of (lock_at t₁.table i) ≡ moves (state_of (lock_at t'.table i))) → ChangesOnlyWay t'.table t₁.table i →
+    t₁.used ≡ t'.used → vec_items t₁.blocked ≡ vec_items t'.blocked → Draining t t'' i
+draining_more t t' t₁ t'' i r seat d l answer e tag here rest used blocked =
     let st = state_of (lock_at t'.table i) in
     let m = some_moved st seat (sym answer ∙ e) in
     let f = d.few in
-    let now : state_of (lock_at t''.table i) ≡ moves st = ap (λ (x : AddressTable). state_of (lock_at x i)) table ∙ here (omega (arith, f)) in
+    let now : state_of (lock_at t''.table i) ≡ moves st = ap (λ (x : AddressTable). state_of (lock_at x i)) l.table ∙ here (omega (arith, f)) in
     let h : (lock_at t''.table i).holders ≡ (moves st).holders = ap (λ (s : State). s.holders) now in
-    let l : length (state_of (lock_at t''.table i)).waiting ≡ length (moves st).waiting = ap (λ (s : State). length s.waiting) now in
+    let n : length (state_of (lock_at t''.table i)).waiting ≡ length (moves st).waiting = ap (λ (s : State). length s.waiting) now in
     let c : (s : ℕ) → claims s (state_of (lock_at t''.table i)).waiting ≡ claims s (moves st).waiting = λ s. ap (λ (x : State). claims s x.waiting) now in
+    let fell : (s : ℕ) → blocked_at t'' s ≡ blocked_at t' s - tally (eqb seat s) = λ s. l.counts s ∙ ap (λ bs. get_or bs s 0 - tally (eqb seat s)) blocked in
     record {
-      tags = ap (λ (x : AddressTable). vec_items x.tags) table ∙ tags ∙ d.tags;
-      live = ap (λ (x : AddressTable). vec_items x.live) table ∙ live ∙ d.live;
-      others = λ j ne. ap (λ (x : AddressTable). lock_at x j) table ∙ others j ne ∙ d.others j ne;
-      versions = versions ∙ d.versions;
+      tag = ap (λ (x : AddressTable). tag_at x i) l.table ∙ tag ∙ d.tag;
+      rest = subst (λ (x : AddressTable). ChangesOnlyWay t.table x i) (sym l.table) (only_then t.table t'.table t₁.table i d.rest rest);
+      versions = l.versions ∙ used ∙ d.versions;
       keeps = ap settled now ∙ m.keeps ∙ d.keeps;
-      few = (let k = m.holds in let s = m.shorter in omega (arith, f, h, l, k, s));
-      counts = λ s low. (let a = counts s in let b = m.fewer s in let o = d.owed s low in let q = d.counts s low in let p = c s in omega (arith, a, b, o, q, p));
-      owed = λ s low. (let a = counts s in let b = m.fewer s in let o = d.owed s low in let p = c s in omega (arith, a, b, o, p));
+      few = (let k = m.holds in let s = m.shorter in omega (arith, f, h, n, k, s));
+      counts = λ s low. (let a = fell s in let b = m.fewer s in let o = d.owed s low in let q = d.counts s low in let p = c s in omega (arith, a, b, o, q, p));
+      owed = λ s low. (let a = fell s in let b = m.fewer s in let o = d.owed s low in let p = c s in omega (arith, a, b, o, p));
     }
 
 -- nobody may become a holder any more
-pub draining_end : (t t' : Tracker) (w : AddressTable) (i : ℕ) (t'' : Tracker) (r : Option ℕ) → Draining t t' i →
-    r ≡ promotes (state_of (lock_at t'.table i)) → r ≡ None →
-    vec_items w.tags ≡ vec_items t'.table.tags → vec_items w.live ≡ vec_items t'.table.live →
-    ((lock_at t'.table i).holders < 1000 → state_of (lock_at w i) ≡ moves (state_of (lock_at t'.table i))) →
-    ((j : ℕ) → (j ≡ i → ⊥) → lock_at w j ≡ lock_at t'.table j) →
-    t''.table ≡ w → t''.used ≡ t'.used → vec_items t''.blocked ≡ vec_items t'.blocked → Drained t t'' i
-draining_end t t' w i t'' r d answer e tags live here others table versions blocked =
+pub draining_end : (t t' t₁ : Tracker) (i : ℕ) (r : Option ℕ) → Draining t t' i →
+    r ≡ promotes (state_of (lock_at t'.table i)) → r ≡ None → tag_at t₁.table i ≡ tag_at t'.table i →
+    ((lock_at t'.table i).holders < 1000 → state_of (lock_at t₁.table i) ≡ moves (state_of (lock_at t'.table i))) → ChangesOnlyWay t'.table t₁.table i →
+    t₁.used ≡ t'.used → vec_items t₁.blocked ≡ vec_items t'.blocked → Drained t t₁ i
+draining_end t t' t₁ i r d answer e tag here rest used blocked =
     let st = state_of (lock_at t'.table i) in
     let n = none_settled st (sym answer ∙ e) in
     let f = d.few in
     let same : st ≡ settled (state_of (lock_at t.table i)) = sym n.0 ∙ d.keeps in
     record {
-      tags = ap (λ (x : AddressTable). vec_items x.tags) table ∙ tags ∙ d.tags;
-      live = ap (λ (x : AddressTable). vec_items x.live) table ∙ live ∙ d.live;
-      others = λ j ne. ap (λ (x : AddressTable). lock_at x j) table ∙ others j ne ∙ d.others j ne;
-      versions = versions ∙ d.versions;
-      here = ap (λ (x : AddressTable). state_of (lock_at x i)) table ∙ here (omega (arith, f)) ∙ n.1 ∙ same;
+      tag = tag ∙ d.tag;
+      rest = only_then t.table t'.table t₁.table i d.rest rest;
+      versions = used ∙ d.versions;
+      here = here (omega (arith, f)) ∙ n.1 ∙ same;
       counts = λ s low. ap (λ bs. get_or bs s 0 + claims s (state_of (lock_at t.table i)).waiting) blocked ∙ d.counts s low ∙ ap (λ (x : State). blocked_at t s + claims s x.waiting) same;
     }
 
@@ -116,14 +114,13 @@ live_has w i (suc n) lt = ⊎_elim
 
 -- a holder leaves, all that may hold the address then do, and the set's count follows
 pub departs : (t t₁ t₂ t₃ : Tracker) (M : ℕ → State) (a i : ℕ) → i < 512 → i % 64 ≡ a % 64 → Found t.table a i → Table t.table M → Leaves (M a) t →
-    vec_items t₁.table.tags ≡ vec_items t.table.tags → vec_items t₁.table.live ≡ vec_items t.table.live →
-    state_of (lock_at t₁.table i) ≡ dropped (state_of (lock_at t.table i)) → ((j : ℕ) → (j ≡ i → ⊥) → lock_at t₁.table j ≡ lock_at t.table j) →
+    tag_at t₁.table i ≡ tag_at t.table i → state_of (lock_at t₁.table i) ≡ dropped (state_of (lock_at t.table i)) → ChangesOnlyWay t.table t₁.table i →
     vec_items t₁.blocked ≡ vec_items t.blocked → t₁.used ≡ t.used - freed (state_of (lock_at t.table i)) →
     (Ready t₁ i → Drained t₁ t₂ i) →
-    vec_items t₃.table.tags ≡ vec_items t₂.table.tags → vec_items t₃.table.locks ≡ vec_items t₂.table.locks →
+    vec_items t₃.table.slots ≡ vec_items t₂.table.slots →
     ((z : ℕ) → live_at t₃.table z ≡ live_at t₂.table z - tally (eqb (i % 64) z && not (ltb 0 (lock_at t₂.table i).holders))) →
     vec_items t₃.blocked ≡ vec_items t₂.blocked → t₃.used ≡ t₂.used → Departed t t₃ M a
-departs t t₁ t₂ t₃ M a i lt z f table leaves tags₁ live₁ here₁ others₁ blocked₁ used₁ drained tags₃ locks₃ live₃ blocked₃ used₃ =
+departs t t₁ t₂ t₃ M a i lt z f table leaves tag₁ here₁ rest₁ blocked₁ used₁ drained slots₃ live₃ blocked₃ used₃ =
     let w = t.table in
     let p = found_placed w a i lt z f in
     let at : state_of (lock_at w i) ≡ M a = (p M table).3 in
@@ -138,10 +135,11 @@ departs t t₁ t₂ t₃ M a i lt z f table leaves tags₁ live₁ here₁ other
     } in
     let d = drained ready in
     let end : settled (state_of (lock_at t₁.table i)) ≡ released (M a) = ap settled st₁ ∙ sym (released_is (M a)) in
-    let lock₃ : (j : ℕ) → lock_at t₃.table j ≡ lock_at t₂.table j = λ j. ap (λ (ls : List Lock). get_or ls j blank) locks₃ in
-    let st₃ : state_of (lock_at t₃.table i) ≡ released (M a) = ap state_of (lock₃ i) ∙ d.here ∙ end in
+    let slot₃ : (j : ℕ) → slot_at t₃.table j ≡ slot_at t₂.table j = λ j. ap (λ (ss : List Slot). get_or ss j (record { address = 0; lock = blank })) slots₃ in
+    let st₃ : state_of (lock_at t₃.table i) ≡ released (M a) = ap (λ (s : Slot). state_of s.lock) (slot₃ i) ∙ d.here ∙ end in
+    let rest₂ = only_then w t₁.table t₂.table i rest₁ d.rest in
     let st₂ : state_of (lock_at t₂.table i) ≡ released (M a) = d.here ∙ end in
-    let lives : (y : ℕ) → live_at t₂.table y ≡ live_at w y = λ y. ap (λ ns. get_or ns y 0) (d.live ∙ live₁) in
+    let lives : (y : ℕ) → live_at t₂.table y ≡ live_at w y = λ y. ap (λ ns. get_or ns y 0) rest₂.live in
     let h₂ : (lock_at t₂.table i).holders ≡ (released (M a)).holders = ap (λ (s : State). s.holders) st₂ in
     let h₃ : (lock_at t₃.table i).holders ≡ (released (M a)).holders = ap (λ (s : State). s.holders) st₃ in
     let was : ltb 0 (lock_at w i).holders ≡ true = lt-ltb 0 (lock_at w i).holders f.1 in
@@ -152,10 +150,9 @@ departs t t₁ t₂ t₃ M a i lt z f table leaves tags₁ live₁ here₁ other
     let g : live_ways w (i % 64) 8 ≡ live_ways w y 8 = ap (λ n. live_ways w n 8) e in omega (arith, c, k, o, g)) in
     record {
       table = changed w t₃.table M a i (released (M a)) lt table p
-          (ap (λ ts. get_or ts i 0) (tags₃ ∙ d.tags ∙ tags₁) ∙ f.0)
-          (λ j ne. ap (λ ts. get_or ts j 0) (tags₃ ∙ d.tags ∙ tags₁))
+          (ap (λ (s : Slot). s.address) (slot₃ i) ∙ d.tag ∙ tag₁ ∙ f.0)
           st₃
-          (λ j ne. lock₃ j ∙ d.others j ne ∙ others₁ j ne)
+          (λ j ne. slot₃ j ∙ rest₂.others j ne)
           (settle_gone (less (M a).holders) (M a).waiting)
           (λ y yl. follow (live_at t₃.table y) (live_at w y) (eqb (i % 64) y) (ltb 0 (lock_at w i).holders) (ltb 0 (lock_at t₃.table i).holders) (ltb 0 (released (M a)).holders) was (ap (ltb 0) h₃) (λ e. some y yl (eqb-true (i % 64) y e)) (now y));
       counts = λ s low.

@@ -1,4 +1,5 @@
 pub mod Tables
+mod Searches
 pub mod Entries
 pub mod Tracking
 pub mod Room

@@ -1,5 +1,5 @@
 -- A table changed at one way stands for the map changed at one address. Assumes nothing.
-use Rattle.std.proofs.Common.{◌≡◌, ℕ, zero, suc, ◌+◌, ◌*◌, ◌/◌, ◌%◌, ◌<◌, ◌≤◌, Bool, true, false, cond, not, ◌&&◌, eqb, ltb, ◌⊎◌, List, [], ◌∷◌, length, get_or, set, vec_items, sym, refl, ap, ◌∙◌, subst, inl, inr, ⊎_elim, not-suc-le-zero, arith, get_or-set_other, get_or-set_same}
+use Rattle.std.proofs.Common.{◌≡◌, ℕ, zero, suc, ◌+◌, ◌*◌, ◌/◌, ◌%◌, ◌<◌, ◌≤◌, Bool, true, false, not, ◌&&◌, eqb, ltb, ◌⊎◌, List, [], ◌∷◌, length, sym, refl, ap, ◌∙◌, subst, inl, inr, ⊎_elim, not-suc-le-zero, arith}
 use Rattle.std.proofs.lemmas.Bool.{cases_eq, eq-eqb, ne_eqb, cases_Bool, cond-true, cond-false, both_ways, lt-ltb}
 use Rattle.roll.specs.Tables.{tally}
 use Rattle.host.specs.Meaning.{update}
@@ -8,10 +8,11 @@ use Rattle.claims.specs.Claims.{State, vacant, settle, open_to, joined_by}
 use Rattle.claims.proofs.Updates.{update_same, update_other}
 use Rattle.claims.proofs.Held.{settle_holds}
 use Rattle.tracker.specs.State.{state_of}
-use Rattle.tracker.specs.Table.{tag_at, lock_at, live_at, Live, Found, Absent, Full, Free, Table, Placed, Joined, live_ways}
+use Rattle.tracker.specs.Table.{slot_at, tag_at, lock_at, live_at, Live, Found, Absent, Full, Free, Table, Placed, Joined, live_ways}
 use Rattle.tracker.specs.declared.lock.Lock.{Lock}
 use Rattle.tracker.specs.declared.ways.AddressTable.{AddressTable}
 use Rattle.tracker.specs.declared.ways.Claimed.{Claimed}
+use Rattle.tracker.specs.declared.ways.Slot.{Slot}
 
 -- an address that is at no way of its set is at no way
 pub nowhere : (w : AddressTable) (M : ℕ → State) (a : ℕ) → Table w M → Absent w a → (j : ℕ) → j < 512 → Found w a j → ⊥
@@ -104,12 +105,13 @@ module _ (w w' : AddressTable) (i : ℕ) (inside : i < 512) (others : (j : ℕ) 
 
 -- the table changed at the place of an address stands for the map changed at the address
 pub changed : (w w' : AddressTable) (M : ℕ → State) (a i : ℕ) (st : State) → i < 512 → Table w M → Placed w a i →
-    tag_at w' i ≡ a → ((j : ℕ) → (j ≡ i → ⊥) → tag_at w' j ≡ tag_at w j) →
-    state_of (lock_at w' i) ≡ st → ((j : ℕ) → (j ≡ i → ⊥) → lock_at w' j ≡ lock_at w j) →
+    tag_at w' i ≡ a → state_of (lock_at w' i) ≡ st → ((j : ℕ) → (j ≡ i → ⊥) → slot_at w' j ≡ slot_at w j) →
     (st.holders ≡ 0 → st ≡ vacant) →
     ((z : ℕ) → z < 64 → live_at w' z + tally (eqb (i % 64) z && ltb 0 (lock_at w i).holders) ≡ live_at w z + tally (eqb (i % 64) z && ltb 0 (lock_at w' i).holders)) →
     Table w' (update M a st)
-changed w w' M a i st lt t placed ti to gi go gone follow =
+changed w w' M a i st lt t placed ti gi others gone follow =
+    let to : (j : ℕ) → (j ≡ i → ⊥) → tag_at w' j ≡ tag_at w j = λ j ne. ap (λ (s : Slot). s.address) (others j ne) in
+    let go : (j : ℕ) → (j ≡ i → ⊥) → lock_at w' j ≡ lock_at w j = λ j ne. ap (λ (s : Slot). s.lock) (others j ne) in
     let p = placed M t in
     let back : (j : ℕ) → (j ≡ i → ⊥) → Live w' j → Live w j = λ j ne l. subst (λ (g : Lock). 0 < g.holders) (go j ne) l in
     let far : (j : ℕ) → j < 512 → (j ≡ i → ⊥) → Live w j → tag_at w j ≡ a → ⊥ = λ j jl ne l e. ne (p.2 j jl (e, l)) in
@@ -166,15 +168,15 @@ settle_gone zero (c ∷ q) z = absurd (let h = settle_holds 1 c.writes q in omeg
 settle_gone (suc n) (c ∷ q) z = absurd (let h = settle_holds (suc n) false (c ∷ q) in omega (arith, h, z))
 
 -- what a claim on an address does to the table, at the place of the address
-pub joins : (w w' : AddressTable) (M : ℕ → State) (a i : ℕ) (c : Claim) (r : Claimed) → i < 512 → i < length (vec_items w.tags) → Table w M → Placed w a i →
+pub joins : (w w' : AddressTable) (M : ℕ → State) (a i : ℕ) (c : Claim) (r : Claimed) → i < 512 → Table w M → Placed w a i →
     (M a).holders + length (M a).waiting < 256 →
-    vec_items w'.tags ≡ set (vec_items w.tags) i a →
+    tag_at w' i ≡ a →
     ((lock_at w i).holders < 1000 → length (state_of (lock_at w i)).waiting < 256 → state_of (lock_at w' i) ≡ joined_by (state_of (lock_at w i)) c) →
-    ((j : ℕ) → (j ≡ i → ⊥) → lock_at w' j ≡ lock_at w j) →
+    ((j : ℕ) → (j ≡ i → ⊥) → slot_at w' j ≡ slot_at w j) →
     ((z : ℕ) → z < 64 → live_at w' z ≡ live_at w z + tally (eqb (i % 64) z && not (ltb 0 (lock_at w i).holders))) →
     r.fresh ≡ not (ltb 0 (lock_at w i).holders) → r.holds ≡ open_to (state_of (lock_at w i)) c.writes →
     Joined w w' M a c r
-joins w w' M a i c r lt lv t p size tags here others live fresh holds =
+joins w w' M a i c r lt t p size tag here others live fresh holds =
     let q = p M t in
     let at : state_of (lock_at w i) ≡ M a = q.3 in
     let h : (lock_at w i).holders ≡ (M a).holders = ap (λ (s : State). s.holders) at in
@@ -185,10 +187,7 @@ joins w w' M a i c r lt lv t p size tags here others live fresh holds =
     record {
       fresh = fresh ∙ ap (λ n. not (ltb 0 n)) h;
       holds = holds ∙ ap (λ (s : State). open_to s c.writes) at;
-      table = changed w w' M a i (joined_by (M a) c) lt t p
-          (ap (λ ts. get_or ts i 0) tags ∙ get_or-set_same _ i a 0 lv)
-          (λ j ne. ap (λ ts. get_or ts j 0) tags ∙ get_or-set_other _ i j a 0 ne)
-          now others (λ z. absurd (omega (arith, alive, z)))
+      table = changed w w' M a i (joined_by (M a) c) lt t p tag now others (λ z. absurd (omega (arith, alive, z)))
           (λ z zl. follow (live_at w' z) (live_at w z) (eqb (i % 64) z) (ltb 0 (lock_at w i).holders) (ltb 0 (lock_at w' i).holders) up (live z zl));
       live = λ z zl. live z zl ∙ ap (λ (k : ℕ). live_at w z + tally (eqb k z && not (ltb 0 (lock_at w i).holders))) q.0 ∙ ap (λ (n : ℕ). live_at w z + tally (eqb (a % 64) z && not (ltb 0 n))) h;
     }
@@ -214,13 +213,3 @@ most_live w z (suc n) = let k = most_live w z n in let e = tally_most (ltb 0 (lo
     tally_most : (b : Bool) → tally b ≤ 1
     tally_most true = omega arith
     tally_most false = omega arith
-
--- a test that fails counts nothing more
-pub count_same : (n : ℕ) (b l : Bool) → l ≡ true → n ≡ n + tally (b && not l)
-count_same n false l u = omega arith
-count_same n true l u = let k : tally (not l) ≡ 0 = ap (λ v. tally (not v)) u in omega (arith, k)
-
--- one that holds counts one more
-pub count_more : (n' n : ℕ) (b l : Bool) → l ≡ false → n' ≡ cond b (n + 1) n → n' ≡ n + tally (b && not l)
-count_more n' n false l u e = omega (arith, e)
-count_more n' n true l u e = let k : tally (not l) ≡ 1 = ap (λ v. tally (not v)) u in omega (arith, k, e)

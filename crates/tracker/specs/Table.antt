@@ -1,11 +1,13 @@
 -- The address table as a map from addresses to what their queues come to. Assumes nothing.
 --
---   tag_at, lock_at, live_at    the address and the lock of a way, the count of a set
+--   slot_at, tag_at, lock_at    what stands at a way, its address and its lock
+--   live_at                     the count of a set
 --   Live, Found, Absent         a way is live; an address is at a way; it is at no way of its set
 --   Full, Free                  every way of the set is live; one is not
 --   Table                       the table stands for a map
 --   Placed                      the way of an address, or one that it may have
-use Rattle.std.specs.Prelude.{◌≡◌, ℕ, zero, suc, ◌+◌, ◌*◌, ◌%◌, ◌<◌, not, ◌&&◌, vec_items, ◌==◌, nat_lt, slice_index, slice_index_or}
+--   ChangesOnlyWay              what stands at the other ways stays, and so do the counts
+use Rattle.std.specs.Prelude.{◌≡◌, ℕ, zero, suc, ◌+◌, ◌*◌, ◌%◌, ◌<◌, not, ◌&&◌, vec_items, ◌==◌, ◌≢◌, nat_lt, slice_index, slice_index_or}
 use Rattle.roll.specs.Tables.{tally}
 use Rattle.host.specs.Meaning.{update}
 use Rattle.claims.specs.declared.Claim.{Claim}
@@ -14,14 +16,19 @@ use Rattle.tracker.specs.State.{state_of, blank}
 use Rattle.tracker.specs.declared.lock.Lock.{Lock}
 use Rattle.tracker.specs.declared.ways.AddressTable.{AddressTable}
 use Rattle.tracker.specs.declared.ways.Claimed.{Claimed}
+use Rattle.tracker.specs.declared.ways.Slot.{Slot}
+
+-- what stands at a way; outside the table the address 0, which nobody holds
+abbrev pub slot_at : AddressTable → ℕ → Slot
+slot_at w i = slice_index_or (vec_items w.slots) i (record { address = 0; lock = blank })
 
 -- the address at a way
 abbrev pub tag_at : AddressTable → ℕ → ℕ
-tag_at w i = slice_index (vec_items w.tags) i
+tag_at w i = (slot_at w i).address
 
 -- the lock at a way
 abbrev pub lock_at : AddressTable → ℕ → Lock
-lock_at w i = slice_index_or (vec_items w.locks) i blank
+lock_at w i = (slot_at w i).lock
 
 -- the count of a set's live ways
 abbrev pub live_at : AddressTable → ℕ → ℕ
@@ -71,6 +78,11 @@ abbrev pub Placed : AddressTable → ℕ → ℕ → Type 0
 Placed w a i =
     (M : ℕ → State) → Table w M →
     (i % 64 ≡ a % 64) × (Live w i → tag_at w i ≡ a) × ((j : ℕ) → j < 512 → Found w a j → j ≡ i) × (state_of (lock_at w i) ≡ M a)
+
+-- the table changes at way i alone: what stands at each other way stays, and so do the counts of the sets
+pub record ChangesOnlyWay (w w' : AddressTable) (i : ℕ) : Type 0 where
+  pub others : (j : ℕ) → (j ≢ i) → slot_at w' j ≡ slot_at w j
+  pub live : vec_items w'.live ≡ vec_items w.live
 
 -- a claim on an address was made: what it met, the table and the set's count after
 pub record Joined (w w' : AddressTable) (M : ℕ → State) (a : ℕ) (c : Claim) (r : Claimed) : Type 0 where

@@ -1,55 +1,82 @@
 // Why the tables cannot take a task: it never fits, too few versions are free, or a set has no room.
-ghost use Rattle.std.specs.Prelude.{◌≡◌, ℕ, ◌+◌, ◌%◌, ◌<◌, ◌≤◌, false, not, ◌&&◌, ◌||◌, [], ◌∷◌, length, is_some, ◌==◌, nat_lt, slice_index};
+ghost use Rattle.std.specs.Prelude.{◌≡◌, ℕ, ◌+◌, ◌%◌, ◌<◌, ◌≤◌, min, not, ◌&&◌, ◌||◌, [], ◌∷◌, length, is_some, if◌then◌else◌, ◌==◌, nat_lt, slice_index};
+ghost use Rattle.std.specs.Option.{option_map_or};
 ghost use Rattle.task.specs.Access.{writes};
 ghost use Rattle.roll.specs.Roll.{Roll};
-ghost use Rattle.roll.specs.Tables.{live, needs, fresh, crowded, full_set, stall, tally};
+ghost use Rattle.roll.specs.Tables.{live, needs, fresh, crowded, stall, tally};
 ghost use Rattle.tracker.specs.Table.{live_at};
 ghost use Rattle.tracker.specs.Tracked.{Tracked, sized, unless};
 
 use crate::tracker::Tracker;
+use crate::ways::{Set, WAYS};
 use fault::TableFault;
 use task::Access;
 
-// How many addresses a set holds.
-const WAYS: u8 = 8;
+// How many addresses of each set are counted.
+#[derive(Clone, Copy)]
+struct SetCounts {
+    counts: [u8; 64],
+}
 
-// What a task needs of the tables: how many versions, and how many new addresses of each set; and whether a set may have no room for them.
+// What a task needs of the tables: how many versions, and how many new addresses of each set; and the lowest set that has no room for
+// its new addresses, if there is one.
 #[derive(Clone, Copy)]
 struct Demand {
     versions: u16,
-    added: [u8; 64],
-    full: bool,
+    added: SetCounts,
+    full: Option<u8>,
+}
+
+impl SetCounts {
+    // No address.
+    fn none() -> SetCounts
+        ensures { (z : ℕ) → z < 64 → slice_index result.counts z ≡ 0 }
+    {
+        SetCounts { counts: [0; 64] }
+    }
+
+    // One more address of a set. How many of the set are counted now?
+    fn add(&mut self, set: Set) -> u8
+        ensures answer { result ≡ slice_index self.new.counts set.number }
+        ensures counts { slice_index self.old.counts set.number < 255 → (z : ℕ) → slice_index self.new.counts z ≡ slice_index self.old.counts z + tally (set.number == z) }
+    {
+        self.counts[set.number] = self.counts[set.number].saturating_add(1);
+        self.counts[set.number]
+    }
 }
 
 // Has a set more than 8 of the accesses?
 fn crowds(accesses: &[Access]) -> bool
     ensures { result ≡ is_some (crowded (λ set. fresh (sized 0 0) [] set accesses.now)) }
 {
-    if accesses.len() <= WAYS as usize {
+    if accesses.len() <= WAYS {
         return false;
     }
-    let mut counts = [0u8; 64];
+    let mut counts = SetCounts::none();
     for access in accesses {
-        let set = (access.address % 64) as usize;
-        if counts[set] >= WAYS {
+        if counts.add(Set::of(access.address)) > WAYS as u8 {
             return true;
         }
-        counts[set] += 1;
     }
     false
 }
 
+// The lower of a set and another, if there is another.
+fn lower(set: u8, other: Option<u8>) -> u8
+    ensures { result ≡ option_map_or (λ z. min z set) other set }
+{
+    other.map_or(set, |z| z.min(set))
+}
+
 impl Demand {
     // One more new address of a set that has so many live ones.
-    fn add(&mut self, set: usize, live: u8)
-        requires { set < 64 }
+    fn add(&mut self, set: Set, live: u8)
         ensures versions { self.new.versions ≡ self.old.versions }
-        ensures added { slice_index self.old.added set < 255 → (z : ℕ) → slice_index self.new.added z ≡ slice_index self.old.added z + tally (set == z) }
-        ensures full { self.new.full ≡ false → (self.old.full ≡ false) × (live + slice_index self.new.added set ≤ 8) }
+        ensures added { slice_index self.old.added.counts set.number < 255 → (z : ℕ) → slice_index self.new.added.counts z ≡ slice_index self.old.added.counts z + tally (set.number == z) }
+        ensures full { self.new.full ≡ (if nat_lt 8 (live + slice_index self.new.added.counts set.number) then Some (option_map_or (λ z. min z set.number) self.old.full set.number) else self.old.full) }
     {
-        self.added[set] = self.added[set].saturating_add(1);
-        if live.saturating_add(self.added[set]) > WAYS {
-            self.full = true;
+        if live.saturating_add(self.added.add(set)) > WAYS as u8 {
+            self.full = Some(lower(set.number as u8, self.full));
         }
     }
 }
@@ -66,56 +93,40 @@ impl Tracker {
     fn is_live(&self, address: u64) -> bool
         ensures { (v : Roll) → Tracked self.now v → result ≡ live v address }
     {
-        match self.table.find(address) {
-            Some(_) => true,
-            None => false,
-        }
+        self.table.find(address).is_some()
     }
 
     // Adds what one more access needs.
     fn count_in(&self, demand: &mut Demand, access: &Access)
         ensures versions { (v : Roll) → Tracked self.now v → demand.old.versions < 255 → demand.new.versions ≡ demand.old.versions + tally (writes access.now || not (live v access.now.address)) }
-        ensures added { (v : Roll) → Tracked self.now v → slice_index demand.old.added (access.now.address % 64) < 255 → (z : ℕ) → slice_index demand.new.added z ≡ slice_index demand.old.added z + tally (access.now.address % 64 == z && not (live v access.now.address)) }
-        ensures full { slice_index demand.old.added (access.now.address % 64) < 255 → (demand.old.full ≡ false → (z : ℕ) → z < 64 → live_at self.now.table z + slice_index demand.old.added z ≤ 8) → demand.new.full ≡ false → (z : ℕ) → z < 64 → live_at self.now.table z + slice_index demand.new.added z ≤ 8 }
+        ensures added { (v : Roll) → Tracked self.now v → slice_index demand.old.added.counts (access.now.address % 64) < 255 → (z : ℕ) → slice_index demand.new.added.counts z ≡ slice_index demand.old.added.counts z + tally (access.now.address % 64 == z && not (live v access.now.address)) }
+        ensures full { slice_index demand.old.added.counts (access.now.address % 64) < 255 → demand.old.full ≡ crowded (λ z. live_at self.now.table z + slice_index demand.old.added.counts z) → demand.new.full ≡ crowded (λ z. live_at self.now.table z + slice_index demand.new.added.counts z) }
     {
         let live = self.is_live(access.address);
         if access.writes() || !live {
             demand.versions = demand.versions.saturating_add(1);
         }
         if !live {
-            let set = (access.address % 64) as usize;
-            demand.add(set, self.table.live[set]);
+            let set = Set::of(access.address);
+            demand.add(set, self.table.live[set.number]);
         }
     }
 
     // What a task with these accesses needs of the tables.
     fn demand(&self, accesses: &[Access]) -> Demand
         ensures versions { (v : Roll) → Tracked self.now v → length accesses.now ≤ 15 → result.versions ≡ needs v accesses.now }
-        ensures added { (v : Roll) → Tracked self.now v → length accesses.now ≤ 15 → (z : ℕ) → z < 64 → slice_index result.added z ≡ fresh (sized 0 0) v z accesses.now }
-        ensures full { (v : Roll) → Tracked self.now v → length accesses.now ≤ 15 → result.full ≡ false → (z : ℕ) → z < 64 → live_at self.now.table z + slice_index result.added z ≤ 8 }
+        ensures added { (v : Roll) → Tracked self.now v → length accesses.now ≤ 15 → (z : ℕ) → z < 64 → slice_index result.added.counts z ≡ fresh (sized 0 0) v z accesses.now }
+        ensures full { (v : Roll) → Tracked self.now v → length accesses.now ≤ 15 → result.full ≡ crowded (λ z. live_at self.now.table z + slice_index result.added.counts z) }
     {
         let mut demand = Demand {
             versions: 0,
-            added: [0; 64],
-            full: false,
+            added: SetCounts::none(),
+            full: None,
         };
         for access in accesses {
             self.count_in(&mut demand, access);
         }
         demand
-    }
-
-    // Has every set room for its new addresses? If not, which is the lowest that has none.
-    fn lowest_full(&self, demand: &Demand) -> Result<(), TableFault>
-        ensures { result ≡ unless (full_set (crowded (λ z. live_at self.now.table z + slice_index demand.now.added z))) }
-    {
-        for set in 0..64u8 {
-            let live = self.table.live[set as usize];
-            if live.saturating_add(demand.added[set as usize]) > WAYS {
-                return Err(TableFault::SetFull { set });
-            }
-        }
-        Ok(())
     }
 
     // May a task with these accesses, which has a seat, enter now? If not, why: too few versions, or a set without room, in that order.
@@ -128,9 +139,9 @@ impl Tracker {
         if missing > 0 {
             return Err(TableFault::TooFewVersions { missing });
         }
-        if !demand.full {
-            return Ok(());
+        match demand.full {
+            Some(set) => Err(TableFault::SetFull { set }),
+            None => Ok(()),
         }
-        self.lowest_full(&demand)
     }
 }

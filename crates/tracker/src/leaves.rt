@@ -6,22 +6,21 @@ ghost use Rattle.roll.specs.Tables.{tally};
 ghost use Rattle.claims.specs.Claims.{State, dropped, freed};
 ghost use Rattle.claims.specs.Queues.{bare};
 ghost use Rattle.tracker.specs.State.{state_of};
-ghost use Rattle.tracker.specs.Table.{Table, lock_at, live_at};
+ghost use Rattle.tracker.specs.Table.{Table, ChangesOnlyWay, tag_at, lock_at};
 ghost use Rattle.tracker.specs.Covered.{Covered};
 ghost use Rattle.tracker.specs.Tracked.{Tracked, blocked_at};
-ghost use Rattle.tracker.specs.Departures.{Leaves, Departed, Ready, Drained, Woken};
+ghost use Rattle.tracker.specs.Departures.{Leaves, Departed, Ready, Drained, Lowered, Woken};
 
 use crate::span::Span;
 use crate::tracker::Tracker;
+use crate::ways::Way;
 use acceptance::Acceptance;
 use task::Access;
 
 impl Tracker {
     // One access fewer of the seat's task waits. Is it the last?
     fn lower(&mut self, seat: u8) -> bool
-        ensures table { self.new.table ≡ self.old.table }
-        ensures versions { self.new.used ≡ self.old.used }
-        ensures counts { (s : ℕ) → blocked_at self.new s ≡ blocked_at self.old s - tally (seat == s) }
+        ensures lowered { Lowered self.old self.new seat }
         ensures last { result ≡ (blocked_at self.new seat == 0) }
     {
         let left = self.blocked[seat as usize].saturating_sub(1);
@@ -31,9 +30,7 @@ impl Tracker {
 
     // One access fewer of the seat's task waits; after the last, the seat's place is covered.
     fn unblock(&mut self, seat: u8, order: &Acceptance, span: &mut Span)
-        ensures table { self.new.table ≡ self.old.table }
-        ensures versions { self.new.used ≡ self.old.used }
-        ensures counts { (s : ℕ) → blocked_at self.new s ≡ blocked_at self.old s - tally (seat == s) }
+        ensures lowered { Lowered self.old self.new seat }
         ensures woken { Woken self.old self.new order.now span.old span.new }
     {
         if self.lower(seat) {
@@ -42,9 +39,8 @@ impl Tracker {
     }
 
     // All that may hold the address at a way do, and each of their seats has one access fewer that waits.
-    fn drain(&mut self, way: usize, order: &Acceptance, span: &mut Span)
-        requires { way < 512 }
-        ensures drained { Ready self.old way → Drained self.old self.new way }
+    fn drain(&mut self, way: Way, order: &Acceptance, span: &mut Span)
+        ensures drained { Ready self.old way.number → Drained self.old self.new way.number }
         ensures woken { Woken self.old self.new order.now span.old span.new }
     {
         while let Some(seat) = self.table.promote_at(way) {
@@ -53,31 +49,17 @@ impl Tracker {
     }
 
     // A holder of the address at a way leaves, with the version that falls free.
-    fn release(&mut self, way: usize)
-        requires { way < 512 }
-        ensures tags { self.new.table.tags.items ≡ self.old.table.tags.items }
-        ensures live { self.new.table.live.items ≡ self.old.table.live.items }
-        ensures here { state_of (lock_at self.new.table way) ≡ dropped (state_of (lock_at self.old.table way)) }
-        ensures others { (i : ℕ) → (i ≢ way) → lock_at self.new.table i ≡ lock_at self.old.table i }
+    fn release(&mut self, way: Way)
+        ensures tag { tag_at self.new.table way.number ≡ tag_at self.old.table way.number }
+        ensures here { state_of (lock_at self.new.table way.number) ≡ dropped (state_of (lock_at self.old.table way.number)) }
+        ensures rest { ChangesOnlyWay self.old.table self.new.table way.number }
         ensures counts { self.new.blocked.items ≡ self.old.blocked.items }
-        ensures versions { self.new.used ≡ self.old.used - freed (state_of (lock_at self.old.table way)) }
+        ensures versions { self.new.used ≡ self.old.used - freed (state_of (lock_at self.old.table way.number)) }
     {
         if self.table.frees(way) {
             self.used = self.used.saturating_sub(1);
         }
         self.table.release_at(way);
-    }
-
-    // If nobody holds the address at a way any more, the set has one live address fewer.
-    fn close(&mut self, way: usize)
-        requires { way < 512 }
-        ensures tags { self.new.table.tags.items ≡ self.old.table.tags.items }
-        ensures locks { self.new.table.locks.items ≡ self.old.table.locks.items }
-        ensures live { (z : ℕ) → live_at self.new.table z ≡ live_at self.old.table z - tally (way % 64 == z && not (nat_lt 0 (lock_at self.old.table way).holders)) }
-        ensures counts { self.new.blocked.items ≡ self.old.blocked.items }
-        ensures versions { self.new.used ≡ self.old.used }
-    {
-        self.table.close(way);
     }
 
     // A holder of an address leaves, and all that may hold the address then do.
@@ -90,7 +72,7 @@ impl Tracker {
         };
         self.release(way);
         self.drain(way, order, span);
-        self.close(way);
+        self.table.close(way);
     }
 
     // A task that no earlier task blocks leaves the tables. The places of the seats that are no longer blocked then are covered.

@@ -3,125 +3,107 @@ ghost use Rattle.std.specs.Prelude.{◌≡◌, ℕ, ◌+◌, ◌-◌, ◌*◌, �
 ghost use Rattle.roll.specs.Tables.{tally};
 ghost use Rattle.claims.specs.Claims.{State, open_to, joined_by, dropped, promotes, moves, freed};
 ghost use Rattle.tracker.specs.State.{state_of};
-ghost use Rattle.tracker.specs.Table.{Absent, Found, Full, Free, Placed, Table, Joined, lock_at, tag_at, live_at};
+ghost use Rattle.tracker.specs.Table.{Absent, Found, Full, Free, Placed, Table, Joined, ChangesOnlyWay, lock_at, tag_at, live_at};
 
 use crate::lock::Lock;
-use crate::ways::{AddressTable, Claimed};
+use crate::ways::{AddressTable, Claimed, Set, WAYS, Way};
 use claims::Claim;
 
 impl AddressTable {
     // Is this live address at this way?
-    fn shows(&self, way: usize, address: u64) -> bool
-        requires { way < 512 }
-        ensures { elim result [ true ↦ Found self.now address way | false ↦ (Found self.now address way → ⊥) ] }
+    fn shows(&self, way: Way, address: u64) -> bool
+        ensures { elim result [ true ↦ Found self.now address way.number | false ↦ (Found self.now address way.number → ⊥) ] }
     {
-        self.tags[way] == address && self.locks[way].is_live()
+        let slot = &self.slots[way.number];
+        slot.address == address && slot.lock.is_live()
     }
 
     // Does somebody hold the address at this way?
-    pub(crate) fn is_live(&self, way: usize) -> bool
-        requires { way < 512 }
-        ensures { result ≡ nat_lt 0 (lock_at self.now way).holders }
+    pub(crate) fn is_live(&self, way: Way) -> bool
+        ensures { result ≡ nat_lt 0 (lock_at self.now way.number).holders }
     {
-        self.locks[way].is_live()
+        self.slots[way.number].lock.is_live()
     }
 
     // The way of a live address.
-    pub(crate) fn find(&self, address: u64) -> Option<usize>
-        ensures { MatchOption result (Absent self.now address) (λ w. (w < 512) × (w % 64 ≡ address % 64) × Found self.now address w) }
+    pub(crate) fn find(&self, address: u64) -> Option<Way>
+        ensures { MatchOption result (Absent self.now address) (λ w. (w.number % 64 ≡ address % 64) × Found self.now address w.number) }
     {
-        let set = (address % 64) as usize;
-        for i in 0..8usize {
-            let way = set + 64 * i;
-            if self.shows(way, address) {
-                return Some(way);
-            }
-        }
-        None
+        let set = Set::of(address);
+        (0..WAYS)
+            .map(|k| set.way(k))
+            .find(|way| self.shows(*way, address))
     }
 
     // A way of the address's set that is not live.
-    fn vacancy(&self, address: u64) -> Option<usize>
-        ensures { MatchOption result (Full self.now address) (λ w. Free self.now address w) }
+    fn vacancy(&self, address: u64) -> Option<Way>
+        ensures { MatchOption result (Full self.now address) (λ w. Free self.now address w.number) }
     {
-        let set = (address % 64) as usize;
-        for i in 0..8usize {
-            let way = set + 64 * i;
-            if !self.is_live(way) {
-                return Some(way);
-            }
-        }
-        None
+        let set = Set::of(address);
+        (0..WAYS)
+            .map(|k| set.way(k))
+            .find(|way| !self.is_live(*way))
     }
 
     // The way of an address, or one that it may have.
-    fn place(&self, address: u64) -> Option<usize>
-        ensures { MatchOption result (Absent self.now address × Full self.now address) (λ w. (w < 512) × Placed self.now address w) }
+    fn place(&self, address: u64) -> Option<Way>
+        ensures { MatchOption result (Absent self.now address × Full self.now address) (λ w. Placed self.now address w.number) }
     {
-        match self.find(address) {
-            Some(way) => Some(way),
-            None => match self.vacancy(address) {
-                Some(way) => Some(way),
-                None => None,
-            },
-        }
+        self.find(address).or_else(|| self.vacancy(address))
     }
 
     // One more claim on an address, at a way. Does it hold?
-    fn claim_at(&mut self, way: usize, address: u64, claim: Claim) -> bool
-        requires { way < 512 }
-        ensures answer { result ≡ open_to (state_of (lock_at self.old way)) claim.writes }
-        ensures tags { self.new.tags.items ≡ set self.old.tags.items way address }
-        ensures here { (lock_at self.old way).holders < 1000 → length (state_of (lock_at self.old way)).waiting < 256 → state_of (lock_at self.new way) ≡ joined_by (state_of (lock_at self.old way)) claim }
-        ensures others { (i : ℕ) → (i ≢ way) → lock_at self.new i ≡ lock_at self.old i }
-        ensures live { self.new.live.items ≡ self.old.live.items }
+    fn claim_at(&mut self, way: Way, address: u64, claim: Claim) -> bool
+        ensures answer { result ≡ open_to (state_of (lock_at self.old way.number)) claim.writes }
+        ensures tag { tag_at self.new way.number ≡ address }
+        ensures here { (lock_at self.old way.number).holders < 1000 → length (state_of (lock_at self.old way.number)).waiting < 256 → state_of (lock_at self.new way.number) ≡ joined_by (state_of (lock_at self.old way.number)) claim }
+        ensures rest { ChangesOnlyWay self.old self.new way.number }
     {
-        self.tags[way] = address;
-        self.locks[way].enter(claim)
-    }
-
-    // One more live way in a set.
-    fn count_up(&mut self, set: usize)
-        requires { set < 64 }
-        ensures tags { self.new.tags.items ≡ self.old.tags.items }
-        ensures locks { self.new.locks.items ≡ self.old.locks.items }
-        ensures live { live_at self.old set < 255 → (z : ℕ) → live_at self.new z ≡ (if nat_eq set z then live_at self.old z + 1 else live_at self.old z) }
-    {
-        self.live[set] = self.live[set].saturating_add(1);
-    }
-
-    // One live way fewer in a set.
-    fn count_down(&mut self, set: usize)
-        requires { set < 64 }
-        ensures tags { self.new.tags.items ≡ self.old.tags.items }
-        ensures locks { self.new.locks.items ≡ self.old.locks.items }
-        ensures live { (z : ℕ) → live_at self.new z ≡ (if nat_eq set z then live_at self.old z - 1 else live_at self.old z) }
-    {
-        self.live[set] = self.live[set].saturating_sub(1);
+        let slot = &mut self.slots[way.number];
+        slot.address = address;
+        slot.lock.enter(claim)
     }
 
     // A holder of the address at a way leaves, and nobody that waits holds it yet.
-    pub(crate) fn release_at(&mut self, way: usize)
-        requires { way < 512 }
-        ensures tags { self.new.tags.items ≡ self.old.tags.items }
-        ensures live { self.new.live.items ≡ self.old.live.items }
-        ensures here { state_of (lock_at self.new way) ≡ dropped (state_of (lock_at self.old way)) }
-        ensures others { (i : ℕ) → (i ≢ way) → lock_at self.new i ≡ lock_at self.old i }
+    pub(crate) fn release_at(&mut self, way: Way)
+        ensures tag { tag_at self.new way.number ≡ tag_at self.old way.number }
+        ensures here { state_of (lock_at self.new way.number) ≡ dropped (state_of (lock_at self.old way.number)) }
+        ensures rest { ChangesOnlyWay self.old self.new way.number }
     {
-        self.locks[way].release();
+        self.slots[way.number].lock.release();
     }
 
     // The first that waits at a way holds the address too, if it may. Whose claim?
-    pub(crate) fn promote_at(&mut self, way: usize) -> Option<u8>
-        requires { way < 512 }
-        ensures tags { self.new.tags.items ≡ self.old.tags.items }
-        ensures live { self.new.live.items ≡ self.old.live.items }
-        ensures answer { result ≡ promotes (state_of (lock_at self.old way)) }
-        ensures here { (lock_at self.old way).holders < 1000 → state_of (lock_at self.new way) ≡ moves (state_of (lock_at self.old way)) }
-        ensures others { (i : ℕ) → (i ≢ way) → lock_at self.new i ≡ lock_at self.old i }
-        ensures shorter { OnSome result (length (state_of (lock_at self.new way)).waiting < length (state_of (lock_at self.old way)).waiting) }
+    pub(crate) fn promote_at(&mut self, way: Way) -> Option<u8>
+        ensures answer { result ≡ promotes (state_of (lock_at self.old way.number)) }
+        ensures tag { tag_at self.new way.number ≡ tag_at self.old way.number }
+        ensures here { (lock_at self.old way.number).holders < 1000 → state_of (lock_at self.new way.number) ≡ moves (state_of (lock_at self.old way.number)) }
+        ensures rest { ChangesOnlyWay self.old self.new way.number }
+        ensures shorter { OnSome result (length (state_of (lock_at self.new way.number)).waiting < length (state_of (lock_at self.old way.number)).waiting) }
     {
-        self.locks[way].promote()
+        self.slots[way.number].lock.promote()
+    }
+
+    // If the way was not live before, its set has one more live way.
+    fn open(&mut self, way: Way, fresh: bool)
+        ensures ways { self.new.slots.items ≡ self.old.slots.items }
+        ensures live { live_at self.old (way.number % 64) < 255 → (z : ℕ) → live_at self.new z ≡ live_at self.old z + tally (way.number % 64 == z && fresh) }
+    {
+        if fresh {
+            let set = way.set();
+            self.live[set.number] = self.live[set.number].saturating_add(1);
+        }
+    }
+
+    // If nobody holds the address at a way any more, its set has one live way fewer.
+    pub(crate) fn close(&mut self, way: Way)
+        ensures ways { self.new.slots.items ≡ self.old.slots.items }
+        ensures live { (z : ℕ) → live_at self.new z ≡ live_at self.old z - tally (way.number % 64 == z && not (nat_lt 0 (lock_at self.old way.number).holders)) }
+    {
+        if !self.is_live(way) {
+            let set = way.set();
+            self.live[set.number] = self.live[set.number].saturating_sub(1);
+        }
     }
 
     // One more claim on an address: a way is found for it, and the set's count follows.
@@ -134,35 +116,16 @@ impl AddressTable {
                 holds: false,
             };
         };
-        if self.is_live(way) {
-            let holds = self.claim_at(way, address, claim);
-            return Claimed {
-                fresh: false,
-                holds,
-            };
-        }
+        let fresh = !self.is_live(way);
         let holds = self.claim_at(way, address, claim);
-        self.count_up(way % 64);
-        Claimed { fresh: true, holds }
-    }
-
-    // If nobody holds the address at a way any more, the set has one live way fewer.
-    pub(crate) fn close(&mut self, way: usize)
-        requires { way < 512 }
-        ensures tags { self.new.tags.items ≡ self.old.tags.items }
-        ensures locks { self.new.locks.items ≡ self.old.locks.items }
-        ensures live { (z : ℕ) → live_at self.new z ≡ live_at self.old z - tally (way % 64 == z && not (nat_lt 0 (lock_at self.old way).holders)) }
-    {
-        if !self.is_live(way) {
-            self.count_down(way % 64);
-        }
+        self.open(way, fresh);
+        Claimed { fresh, holds }
     }
 
     // Does a version fall free when a holder of the address at a way leaves?
-    pub(crate) fn frees(&self, way: usize) -> bool
-        requires { way < 512 }
-        ensures { tally result ≡ freed (state_of (lock_at self.now way)) }
+    pub(crate) fn frees(&self, way: Way) -> bool
+        ensures { tally result ≡ freed (state_of (lock_at self.now way.number)) }
     {
-        self.locks[way].frees()
+        self.slots[way.number].lock.frees()
     }
 }

@@ -4,8 +4,8 @@ ghost use Rattle.tracker.specs.Table.{Unused};
 ghost use Rattle.tracker.specs.Tracked.{Tracked};
 
 use crate::lock::Lock;
-use crate::tracker::Tracker;
-use crate::ways::AddressTable;
+use crate::tracker::{SEATS, Tracker};
+use crate::ways::{AddressTable, SETS, Slot, TOTAL};
 use std::alloc::{AllocError, Global};
 
 impl AddressTable {
@@ -13,10 +13,13 @@ impl AddressTable {
     pub(crate) fn new(heap: Global) -> Result<AddressTable, AllocError>
         ensures { IfOk result (λ w. Unused w) }
     {
-        let tags = vec![in heap; 0u64; 512]?;
-        let locks = vec![in heap; Lock::new(); 512]?;
-        let live = vec![in heap; 0u8; 64]?;
-        Ok(AddressTable { tags, locks, live })
+        let free = Slot {
+            address: 0,
+            lock: Lock::new(),
+        };
+        let slots = vec![in heap; free; TOTAL]?;
+        let live = vec![in heap; 0u8; SETS]?;
+        Ok(AddressTable { slots, live })
     }
 }
 
@@ -26,7 +29,7 @@ impl Tracker {
         ensures { IfOk result (λ t. Tracked t []) }
     {
         let table = AddressTable::new(heap)?;
-        let blocked = vec![in heap; 0u8; 256]?;
+        let blocked = vec![in heap; 0u8; SEATS]?;
         Ok(Tracker {
             table,
             blocked,

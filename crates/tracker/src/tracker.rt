@@ -3,6 +3,9 @@ ghost use Rattle.std.specs.Prelude.{◌≡◌, vec_len};
 
 use crate::ways::AddressTable;
 
+// How many seats there are.
+pub(crate) const SEATS: usize = 256;
+
 // The address table, for each seat how many accesses of its task wait, and how many versions are in use.
 #[derive(Drop)]
 pub struct Tracker {

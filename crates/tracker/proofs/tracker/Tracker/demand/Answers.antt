@@ -1,11 +1,10 @@
-use Rattle.std.proofs.Common.{◌≡◌, ℕ, ◌+◌, ◌%◌, ◌<◌, ◌≤◌, get_or, replicate, arith}
-use Rattle.std.proofs.lemmas.List.{get_or-replicate}
+use Rattle.std.proofs.Common.{◌≡◌, ℕ, ◌+◌, ◌%◌, ◌<◌, ◌≤◌, get_or, sym, arith}
 use Rattle.task.proofs.Some.{blank}
 use Rattle.roll.specs.Tables.{fresh}
 use Rattle.tracker.specs.Table.{live_at, live_ways}
 use Rattle.tracker.specs.Tracked.{sized}
 use Rattle.tracker.proofs.Tables.{most_live}
-use Rattle.tracker.proofs.Crowds.{needs_most, needs_more, needs_all, fresh_more, fresh_all, fresh_so_far}
+use Rattle.tracker.proofs.Crowds.{crowded_none, needs_most, needs_more, needs_all, fresh_more, fresh_all, fresh_so_far}
 use Rattle.tracker.proofs.tracker.Tracker.demand.Goals as goal
 
 -- nothing is counted yet
@@ -13,8 +12,9 @@ pub loop-access-init : goal.loop-access-init
 loop-access-init c v t short =
     let w = c.args.self.now.table in (
       omega arith,
-      (λ z lt. none (get_or (replicate 64 0) z 0) (fresh (sized 0 0) v z c.args.accesses.now) (get_or-replicate 64 z 0 0 lt)),
-      λ down z lt. room (live_at w z) (live_ways w z 8) (get_or (replicate 64 0) z 0) (t.table.counted z lt) (most_live w z 8) (get_or-replicate 64 z 0 0 lt),
+      (λ z lt. none (get_or c.none.result.counts z 0) (fresh (sized 0 0) v z c.args.accesses.now) (c.none.ensures z lt)),
+      sym (crowded_none (λ z. live_at w z + get_or c.none.result.counts z 0) (λ z lt.
+          room (live_at w z) (live_ways w z 8) (get_or c.none.result.counts z 0) (t.table.counted z lt) (most_live w z 8) (c.none.ensures z lt))),
     )
   where
     none : (m n : ℕ) → m ≡ 0 → m + n ≡ n
@@ -34,9 +34,9 @@ loop-access-preserved c v t short =
     let h = c.loop-access.invariant v t short in
     let lt = c.loop-access-test.true in
     let few : d.versions < 255 = (let k = needs_most v xs in omega (arith, k, h.0, short)) in
-    let low : get_or d.added z₀ 0 < 255 = (let k = fresh_so_far v z₀ xs i (get_or d.added z₀ 0) (h.1 z₀ (omega arith)) in omega (arith, k, short)) in (
+    let low : get_or d.added.counts z₀ 0 < 255 = (let k = fresh_so_far v z₀ xs i (get_or d.added.counts z₀ 0) (h.1 z₀ (omega arith)) in omega (arith, k, short)) in (
       needs_more v xs i d.versions d'.versions lt h.0 (c.count_in.ensures.versions v t few),
-      (λ z zl. fresh_more v z xs i (get_or d.added z 0) (get_or d'.added z 0) lt (h.1 z zl) (c.count_in.ensures.added v t low z)),
+      (λ z zl. fresh_more v z xs i (get_or d.added.counts z 0) (get_or d'.added.counts z 0) lt (h.1 z zl) (c.count_in.ensures.added v t low z)),
       c.count_in.ensures.full low h.2,
     )
 
@@ -49,6 +49,6 @@ returns c =
     let le = c.loop-access-test.false in
     record {
       versions = λ v t short. needs_all v xs i d.versions le (c.loop-access.invariant v t short).0;
-      added = λ v t short z lt. fresh_all v z xs i (get_or d.added z 0) le ((c.loop-access.invariant v t short).1 z lt);
+      added = λ v t short z lt. fresh_all v z xs i (get_or d.added.counts z 0) le ((c.loop-access.invariant v t short).1 z lt);
       full = λ v t short. (c.loop-access.invariant v t short).2;
     }

@@ -1,4 +1,4 @@
-use Rattle.std.proofs.Common.{arith}
+use Rattle.std.proofs.Common.{refl, arith}
 use Rattle.tracker.proofs.Tables.{absent_none}
 use Rattle.tracker.proofs.Draining.{departs, woken_none, woken_same, woken_end}
 use Rattle.tracker.proofs.tracker.Tracker.depart.Goals as goal
@@ -15,7 +15,6 @@ returns c =
     let t = c.args.self.now in
     let t₁ = c.release.new.self in
     let t₂ = c.drain.new.self in
-    let t₃ = c.close.new.self in
     let f = c.in-Some.ensures in
     let r = c.release.ensures in
     let k = c.close.ensures in
@@ -23,7 +22,7 @@ returns c =
     let sp = c.args.span.now in
     let sp' = c.drain.new.span in
     record {
-      departed = λ M table l. departs t t₁ t₂ t₃ M c.args.address c.in-Some.way f.0 f.1 f.2 table l
-          r.tags r.live r.here r.others r.counts r.versions c.drain.ensures.drained k.tags k.locks k.live k.counts k.versions;
-      woken = woken_end t t₂ t₃ o sp sp' k.counts (woken_same t t₁ t₂ o sp sp' r.counts c.drain.ensures.woken);
+      departed = λ M table l. departs t t₁ t₂ _ M c.args.address c.in-Some.way.number c.in-Some.way.low f.0 f.1 table l
+          r.tag r.here r.rest r.counts r.versions c.drain.ensures.drained k.ways k.live refl refl;
+      woken = woken_end t t₂ _ o sp sp' refl (woken_same t t₁ t₂ o sp sp' r.counts c.drain.ensures.woken);
     }

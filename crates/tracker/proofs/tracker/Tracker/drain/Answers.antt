@@ -3,7 +3,7 @@ use Rattle.tracker.proofs.Draining.{draining_start, draining_more, draining_end,
 use Rattle.tracker.proofs.tracker.Tracker.drain.Goals as goal
 
 pub loop-seat-init : goal.loop-seat-init
-loop-seat-init c = (draining_start c.args.self.now c.args.way, woken_none c.args.self.now c.args.order.now c.args.span.now)
+loop-seat-init c = (draining_start c.args.self.now c.args.way.number, woken_none c.args.self.now c.args.order.now c.args.span.now)
 
 pub loop-seat-preserved : goal.loop-seat-preserved
 loop-seat-preserved c =
@@ -13,7 +13,7 @@ loop-seat-preserved c =
     let o = c.args.order.now in
     let e = c.promote_at.ensures in
     let u = c.unblock.ensures in (
-      (λ r. draining_more t t' t'' c.promote_at.new.self c.args.way c.promote_at.result c.in-Some.seat (c.loop-seat.invariant.0 r) e.answer c.in-Some.is e.tags e.live e.here e.others u.table u.versions u.counts),
+      (λ r. draining_more t t' _ t'' c.args.way.number c.promote_at.result c.in-Some.seat (c.loop-seat.invariant.0 r) u.lowered e.answer c.in-Some.is e.tag e.here e.rest refl refl),
       woken_more t t' t'' o c.args.span.now c.loop-seat.span c.unblock.new.span c.loop-seat.invariant.1 (woken_same t' _ t'' o c.loop-seat.span c.unblock.new.span refl u.woken),
     )
 
@@ -23,6 +23,6 @@ returns c =
     let t' = c.loop-seat.self in
     let e = c.promote_at.ensures in
     record {
-      drained = λ r. draining_end t t' c.promote_at.new.self c.args.way _ c.promote_at.result (c.loop-seat.invariant.0 r) e.answer c.in_default.is e.tags e.live e.here e.others refl refl refl;
+      drained = λ r. draining_end t t' _ c.args.way.number c.promote_at.result (c.loop-seat.invariant.0 r) e.answer c.in_default.is e.tag e.here e.rest refl refl;
       woken = woken_end t t' _ c.args.order.now c.args.span.now c.loop-seat.span refl c.loop-seat.invariant.1;
     }

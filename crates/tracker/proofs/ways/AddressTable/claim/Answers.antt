@@ -1,46 +1,30 @@
-use Rattle.std.proofs.Common.{◌≡◌, ℕ, ◌+◌, ◌%◌, ◌<◌, true, false, cond, not, eqb, ltb, List, length, get_or, vec_items, sym, ap, ◌∙◌, arith}
+use Rattle.std.proofs.Common.{◌≡◌, ℕ, ◌+◌, ◌%◌, ◌<◌, not, ◌&&◌, eqb, List, get_or, ap, ◌∙◌, ap₂, arith}
+use Rattle.roll.specs.Tables.{tally}
 use Rattle.tracker.specs.State.{state_of, blank}
-use Rattle.tracker.specs.Table.{lock_at, live_at}
-use Rattle.tracker.specs.declared.lock.Lock.{Lock}
-use Rattle.tracker.proofs.Tables.{joins, room, most_live, count_same, count_more}
+use Rattle.tracker.specs.Table.{live_at}
+use Rattle.tracker.specs.declared.ways.Slot.{Slot}
+use Rattle.tracker.proofs.Tables.{joins, room, most_live}
 use Rattle.tracker.proofs.ways.AddressTable.claim.Goals as goal
 
 -- a way is found
 pub returns-in_default : goal.returns-in_default
 returns-in_default c M t few size = absurd (room c.args.self.now M c.args.address t few c.in_default.ensures.0 c.in_default.ensures.1)
 
--- the address was live
-pub returns-then-is_live : goal.returns-then-is_live
-returns-then-is_live c M t few size =
-    let w = c.args.self.now in
-    let w' = c.claim_at-holds.new.self in
-    let i = c.in-Some.way in
-    let f = c.in-Some.ensures in
-    let e = c.claim_at-holds.ensures in
-    let up : ltb 0 (lock_at w i).holders ≡ true = sym c.is_live.ensures ∙ c.if-is_live.true in
-    let lv : i < length (vec_items w.tags) = omega (arith, w.tags.ok.0, w.tagged, f.0) in
-    joins w w' M c.args.address i c.args.claim (record { fresh = false; holds = c.claim_at-holds.result }) f.0 lv t f.1 size
-    e.tags e.here e.others
-    (λ z zl. ap (λ ns. get_or ns z 0) e.live ∙ count_same (live_at w z) (eqb (i % 64) z) (ltb 0 (lock_at w i).holders) up)
-    (ap not (sym up)) e.answer
-
--- the address was not live
+-- and claimed
 pub returns : goal.returns
 returns c M t few size =
     let w = c.args.self.now in
-    let w₁ = c.claim_at-holds-2.new.self in
-    let w' = c.count_up.new.self in
-    let i = c.in-Some.way in
-    let f = c.in-Some.ensures in
-    let e = c.claim_at-holds-2.ensures in
-    let u = c.count_up.ensures in
-    let down : ltb 0 (lock_at w i).holders ≡ false = sym c.is_live.ensures ∙ c.if-is_live.false in
-    let lv : i < length (vec_items w.tags) = omega (arith, w.tags.ok.0, w.tagged, f.0) in
-    let at : (z : ℕ) → live_at w₁ z ≡ live_at w z = λ z. ap (λ ns. get_or ns z 0) e.live in
+    let w₁ = c.claim_at-holds.new.self in
+    let w' = c.open.new.self in
+    let i = c.in-Some.way.number in
+    let e = c.claim_at-holds.ensures in
+    let u = c.open.ensures in
+    let fresh = ap not c.is_live-fresh.ensures in
+    let at : (z : ℕ) → live_at w₁ z ≡ live_at w z = λ z. ap (λ ns. get_or ns z 0) e.rest.live in
     let low : live_at w₁ (i % 64) < 255 = (let k = t.counted (i % 64) (omega arith) in let m = most_live w (i % 64) 8 in let a = at (i % 64) in omega (arith, k, m, a)) in
-    joins w w' M c.args.address i c.args.claim (record { fresh = true; holds = c.claim_at-holds-2.result }) f.0 lv t f.1 size
-    (u.tags ∙ e.tags)
-    (λ p q. ap (λ (ls : List Lock). state_of (get_or ls i blank)) u.locks ∙ e.here p q)
-    (λ j ne. ap (λ (ls : List Lock). get_or ls j blank) u.locks ∙ e.others j ne)
-    (λ z zl. count_more (live_at w' z) (live_at w z) (eqb (i % 64) z) (ltb 0 (lock_at w i).holders) down (u.live low z ∙ ap (λ n. cond (eqb (i % 64) z) (n + 1) n) (at z)))
-    (ap not (sym down)) e.answer
+    joins w w' M c.args.address i c.args.claim (record { fresh = not c.is_live-fresh.result; holds = c.claim_at-holds.result }) c.in-Some.way.low t c.in-Some.ensures size
+    (ap (λ (ss : List Slot). (get_or ss i (record { address = 0; lock = blank })).address) u.ways ∙ e.tag)
+    (λ p q. ap (λ (ss : List Slot). state_of (get_or ss i (record { address = 0; lock = blank })).lock) u.ways ∙ e.here p q)
+    (λ j ne. ap (λ (ss : List Slot). get_or ss j (record { address = 0; lock = blank })) u.ways ∙ e.rest.others j ne)
+    (λ z zl. u.live low z ∙ ap₂ (λ n b. n + tally (eqb (i % 64) z && b)) (at z) fresh)
+    fresh e.answer

@@ -3,21 +3,22 @@ use lib.ListN.{get_or-replicate}
 use Rattle.std.proofs.lemmas.Result.{IfOk-from_err}
 use Rattle.tracker.specs.State.{state_of, blank}
 use Rattle.tracker.specs.Table.{Unused}
-use Rattle.tracker.specs.declared.lock.Lock.{Lock}
+use Rattle.tracker.specs.declared.ways.Slot.{Slot}
 use Rattle.tracker.proofs.ways.AddressTable.new.Goals as goal
 
-pub returns-in_err-locks : goal.returns-in_err-locks
-returns-in_err-locks c = IfOk-from_err c.from_residual-in_err-locks.result Unused c.from_residual-in_err-locks.ensures.0
+pub returns-in_err-slots : goal.returns-in_err-slots
+returns-in_err-slots c = IfOk-from_err c.from_residual.result Unused c.from_residual.ensures.0
 
 pub returns-in_err-live : goal.returns-in_err-live
 returns-in_err-live c = IfOk-from_err c.from_residual-in_err-live.result Unused c.from_residual-in_err-live.ensures.0
 
 pub returns : goal.returns
 returns c =
-    let l = c.new.result in
-    let items : vec_items c.in_ok-locks.locks ≡ replicate 512 l = c.in_ok-locks.ensures.items_if_clones_equal (λ y e. e) in
+    let free : Slot = record { address = 0; lock = c.new.result } in
+    let items : vec_items c.in_ok-slots.slots ≡ replicate 512 free = c.in_ok-slots.ensures.items_if_clones_equal (λ y e. e) in
     let zeros : vec_items c.in_ok-live.live ≡ replicate 64 0 = c.in_ok-live.ensures.items_if_clones_equal (λ y e. e) in
+    let none : Slot = record { address = 0; lock = blank } in
     record {
-      locks = λ i lt. ap (λ (ls : List Lock). state_of (get_or ls i blank)) items ∙ ap state_of (get_or-replicate 512 i l blank lt) ∙ c.new.ensures;
+      locks = λ i lt. ap (λ (ss : List Slot). state_of (get_or ss i none).lock) items ∙ ap (λ (s : Slot). state_of s.lock) (get_or-replicate 512 i free none lt) ∙ c.new.ensures;
       counts = λ z lt. ap (λ ns. get_or ns z 0) zeros ∙ get_or-replicate 64 z 0 0 lt;
     }

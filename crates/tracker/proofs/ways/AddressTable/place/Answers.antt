@@ -1,7 +1,6 @@
-use Rattle.tracker.proofs.Tables.{free_placed}
+use Rattle.std.proofs.Common.{rules}
+use Rattle.tracker.proofs.Searches.{place_way}
 use Rattle.tracker.proofs.ways.AddressTable.place.Goals as goal
 
-pub returns-in-Some-vacancy : goal.returns-in-Some-vacancy
-returns-in-Some-vacancy c =
-    let f = c.in-Some-vacancy.ensures in
-    (f.0, free_placed c.args.self.now c.args.address c.in-Some-vacancy.way c.in-None.ensures f)
+pub returns : goal.returns
+returns c = place_way c.args.self.now c.args.address c.find.result c.or_else.result _ c.find.ensures c.or_else.ensures (λ p. search rules)
