@@ -2,8 +2,7 @@
 --   bares_tasks        records with the same tasks make the same roll, but for the standings
 --   became             one task became ready, or none did
 --   ready_room         the ready line has room for the seat of a task that waits
-use Rattle.std.proofs.Common.{◌≡◌, ℕ, ◌<◌, ◌≤◌, Bool, true, false, cond, not, ◌&&◌, eqb, ltb, List, [], ◌∷◌, ◌++◌, map, length, get_or, set, is_some, vec_items, vec_len, sym, refl, ap, ◌∙◌, subst, ap₂, inl, inr, append-nil, arith}
-use Rattle.std.proofs.lemmas.List.{get_or_read_under}
+use Rattle.std.proofs.Common.{◌≡◌, ℕ, ◌<◌, ◌≤◌, Bool, true, false, cond, not, ◌&&◌, eqb, ltb, List, [], ◌∷◌, ◌++◌, map, length, set, is_some, vec_items, vec_len, sym, refl, ap, ◌∙◌, subst, ap₂, inl, inr, append-nil, arith}
 use Rattle.std.proofs.lemmas.Bool.{eqb-true, eq-eqb, ne_eqb, both_ways, cases_Bool, cases_eq}
 use Rattle.acceptance.specs.declared.Acceptance.{Acceptance}
 use Rattle.acceptance.specs.Listed.{member, listed}
@@ -24,7 +23,7 @@ use Rattle.tracker.specs.declared.tracker.Tracker.{Tracker}
 use Rattle.tracker.specs.Tracked.{Tracked}
 use Rattle.manager.specs.declared.inner.Inner.{Inner}
 use Rattle.manager.specs.Lines.{occurrences}
-use Rattle.manager.specs.Model.{vacant, seat_at, entry_of, roll_of, ready_of}
+use Rattle.manager.specs.Model.{seat_at, entry_of, roll_of, ready_of}
 use Rattle.manager.specs.Sound.{is_free, is_waiting, is_ready, free_at, waiting_at, ready_at, Seated}
 use Rattle.manager.specs.Finished.{BecameReady}
 use Rattle.manager.proofs.Occurs.{occurrences-++, tally_same, tally_other, line_room}
@@ -109,10 +108,6 @@ unblocked_standing xs Free = refl
 unblocked_standing xs Waiting = refl
 unblocked_standing xs Ready = refl
 unblocked_standing xs (Running p) = refl
-
--- the record that the table lends for a seat is the seat's
-pub lent_is : (i : Inner) (s : ℕ) (x : Seat) → vec_len i.table.records ≡ 256 → s < 256 → x ≡ get_or (vec_items i.table.records) s x → x ≡ seat_at i s
-lent_is i s x full low e = get_or_read_under (vec_items i.table.records) s 256 x vacant e low (sym full ∙ i.table.records.ok.0)
 
 -- at that event, by the record before it and the record after it
 module _ (i : Inner) (s : ℕ) (x w : Seat) (b : Bool) (same : x ≡ seat_at i s) (answer : b ≡ is_some (moved (accesses_of x.task) x.standing Unblocked)) where

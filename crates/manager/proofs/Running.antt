@@ -23,8 +23,8 @@ use Rattle.manager.specs.Sound.{Sound, is_free, is_waiting, is_ready, free_at, r
 use Rattle.manager.specs.declared.manager.steps.StepDone.{StepDone}
 use Rattle.manager.specs.Stepped.{numbers_of, stepped_answer, stepped_standing, stepped_values}
 use Rattle.manager.proofs.Moving.{moved_roll, moved_sound}
-use Rattle.manager.proofs.Records.{with_record, each_record, record_back, seat_read}
-use Rattle.manager.proofs.Seats.{roll_found, roll_none, seat_low}
+use Rattle.manager.proofs.Records.{with_record, each_record, record_back}
+use Rattle.manager.proofs.Seats.{roll_found, roll_none, seat_low, lent_is}
 
 -- a call that does not answer leaves the state
 refused_leaves : {V : Type 0} (b : State V) (o : Outcome V) → is_ok (step_answer o) ≡ false → left_by b o ≡ b
@@ -162,7 +162,7 @@ pub step_told : {V : Type 0} (i : Inner) → Sound i → (s at : ℕ) (old r : S
 step_told i sound s at old r h w w' res here inside lent answer standing task values kept host =
     let lent : old ≡ get_or (vec_items i.table.records) s old = rw here at lent in
     let low : s < 256 = omega (arith, ltb-true _ _ (sym inside), sound.seated.full) in
-    let read : old ≡ seat_at i s = seat_read i s old sound.seated.full low lent in
+    let read : old ≡ seat_at i s = lent_is i s old sound.seated.full low lent in
     let answer : res ≡ stepped_answer s (entry_of (seat_at i s) s).standing = answer ∙ ap (λ (x : Seat). stepped_answer s (entry_of x s).standing) read in
     let standing : (entry_of r s).standing ≡ stepped_standing (entry_of (seat_at i s) s).standing =
     standing ∙ ap (λ (x : Seat). stepped_standing (entry_of x s).standing) read in

@@ -1,6 +1,5 @@
 -- What a submission comes to, by what each check answers. Assumes nothing.
 --   apart_from          a task without a repeated address has its addresses apart
---   check_refuses       the fault of the task itself
 --   seat_refuses        the fault of the tables
 --   seat_gives          no fault, and the first free seat
 use Rattle.std.proofs.Common.{◌≡◌, ℕ, zero, suc, ◌+◌, ◌<◌, ◌≤◌, Bool, true, false, cond, eqb, ltb, List, [], ◌∷◌, length, take, Some, None, Ok, Err, Option, refl, ap, ◌∙◌, subst, arith}
@@ -71,10 +70,6 @@ pub unless_ok : (o : Option ManagerFault) (u : Unit {0}) → Ok u ≡ unless o �
 unless_ok None u e = refl
 unless_ok (Some f) u e = absurd (let z : ◌≡◌ {A = ℕ} 0 1 = cc in omega arith)
 
-pub unless_err : (o : Option ManagerFault) (f : ManagerFault) → Err f ≡ unless o → o ≡ Some f
-unless_err None f e = absurd (let z : ◌≡◌ {A = ℕ} 0 1 = cc in omega arith)
-unless_err (Some f') f e = cc
-
 -- what the tables refuse is a fault of the manager
 tables_fault : (b : Bool) (s : Option TableFault) → or_else (cond b (Some (Table NeverFits)) None) (by_tables s) ≡ by_tables (cond b (Some NeverFits) s)
 tables_fault true s = refl
@@ -84,11 +79,6 @@ module _ {V : Type 0} (b : State V) (name kind : ℕ) (xs : List Access) (z : Ta
   -- the outcome of the submission
   abbrev pub submission : Outcome V
   submission = submitted b name kind xs (submit_fault z held b.roll b.free_line xs) (give_seat b.free_line)
-
-  -- a fault of the task itself
-  pub check_refuses : (f : ManagerFault) → task_fault held xs ≡ Some f → submission ≡ refused f
-  check_refuses f e =
-      ap (λ (o : Option ManagerFault). submitted b name kind xs (or_else (or_else o (cond (never_fits z xs) (Some (Table NeverFits)) None)) (by_tables (stall z b.roll b.free_line xs))) (give_seat b.free_line)) e
 
   -- without one, the faults are those of the tables
   by_the_tables : task_fault held xs ≡ None → submission ≡ submitted b name kind xs (by_tables (table_fault z b.roll b.free_line xs)) (give_seat b.free_line)

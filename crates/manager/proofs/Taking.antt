@@ -11,7 +11,7 @@ use Rattle.task.specs.Task.{accesses_of}
 use Rattle.order.specs.Steps.{steps}
 use Rattle.roll.specs.Roll.{Roll, Standing as OnRoll, ready, running, Entry, find, change}
 use Rattle.roll.specs.Tables.{tally}
-use Rattle.roll.specs.Calls.{State, Outcome, succeeded, taken, took, begun, begun_at}
+use Rattle.roll.specs.Calls.{State, succeeded, taken, took, begun, begun_at}
 use Rattle.roll.specs.Built.{left_by, take_answer}
 use Rattle.ring.specs.declared.Ring.{Ring}
 use Rattle.ring.specs.Model.{contents_of}
@@ -27,8 +27,8 @@ use Rattle.manager.specs.Lines.{occurrences}
 use Rattle.manager.specs.Model.{seat_at, entry_of, roll_of, ready_of, free_of, state_of}
 use Rattle.manager.specs.Sound.{Seated, Sound, is_free, is_waiting, is_ready, free_at, ready_at}
 use Rattle.manager.proofs.Moving.{moved_roll, moved_sound}
-use Rattle.manager.proofs.Records.{with_record, record_set, record_other, seat_read}
-use Rattle.manager.proofs.Seats.{roll_found, seat_low}
+use Rattle.manager.proofs.Records.{with_record, record_set, record_other}
+use Rattle.manager.proofs.Seats.{roll_found, seat_low, lent_is}
 
 -- a test that counts is passed
 counted : (b : Bool) → 0 < tally b → b ≡ true
@@ -106,7 +106,7 @@ module _ (i : Inner) (sound : Sound i) (line : Ring ℕ) (s : ℕ) (old new : Se
   low = seat_low i sound.seated s held
 
   read : old ≡ seat_at i s
-  read = seat_read i s old sound.seated.full low lent
+  read = lent_is i s old sound.seated.full low lent
 
   same_task : new.task ≡ (seat_at i s).task
   same_task = task ∙ ap (λ (r : Seat). r.task) read
