@@ -3,7 +3,7 @@
 --   walk_start, place_none, place_seat   the walk
 --   awake_state, awake_sound             its end: every task that may is ready
 use Rattle.std.proofs.Common.{◌≡◌, ℕ, ◌+◌, ◌<◌, ◌≤◌, min, Bool, true, false, cond, not, ◌&&◌, ◌||◌, eqb, List, [], ◌∷◌, ◌++◌, map, length, sym, refl, ap, ◌∙◌, subst, ap₂, inl, inr, append_assoc, append-nil, arith, length-append}
-use Rattle.std.proofs.lemmas.Bool.{eqb-true, eq-eqb, both_ways, and_parts, and_left, and_right, cases_Bool}
+use Rattle.std.proofs.lemmas.Bool.{eqb-true, eq-eqb, both_ways, and_parts, and_left, and_right, not-true, cases_Bool}
 use Rattle.acceptance.specs.declared.Acceptance.{Acceptance}
 use Rattle.acceptance.specs.Listed.{member, below, listed, place_of}
 use Rattle.acceptance.proofs.Laws.{between}
@@ -29,7 +29,7 @@ use Rattle.manager.specs.Sound.{is_free, is_waiting, free_at, waiting_at, Seated
 use Rattle.manager.proofs.Decided.{entry_at, idle_at, tables_decide}
 use Rattle.manager.proofs.Passed.{passed, passed_first, passed_few, passed_apart, passed_hole, passed_seat, passed_new, passed_has, passed_not}
 use Rattle.manager.proofs.Rolls.{map_same}
-use Rattle.manager.proofs.Roused.{waiting_not_free}
+use Rattle.manager.proofs.Standings.{waiting_not_free}
 use Rattle.manager.proofs.Seats.{seat_listed, entries_own}
 use Rattle.manager.proofs.Wakes.{member-++, kept, kept-++, length_kept, kept_none, kept_same, stirs, Decides, woken_entry, wake_map, woken_kept}
 
@@ -182,11 +182,7 @@ module _ (i j : Inner) (span : Span) (p : ℕ) (k : Waking i span) (h : Walked i
   all_reached t w = let near = (wakes_covered i span k t w).1 in passed_has i.order p t (wakes_listed i k.seated t w) (omega arith)
 
   taken : (t : ℕ) → member t (listed i.order) ≡ true → free_at i t ≡ false
-  taken t m = not_taken (free_at i t) (sym (k.seated.listed_seats t) ∙ m)
-    where
-      not_taken : (b : Bool) → not b ≡ true → b ≡ false
-      not_taken true e = sym e
-      not_taken false e = refl
+  taken t m = not-true (free_at i t) (sym (k.seated.listed_seats t) ∙ m)
 
   behind_none : (t : ℕ) → member t (between i.order (min p i.order.end) i.order.end) ≡ true → wakes i t ≡ false
   behind_none t m =

@@ -2,7 +2,7 @@
 use Rattle.std.proofs.Common.{◌≡◌, ℕ, ◌<◌, ◌≤◌, Bool, true, false, cond, not, ltb, List, [], ◌∷◌, ◌++◌, length, get_or, set, Some, None, vec_items, Option, sym, refl, ap, ◌∙◌, arith, MatchOption}
 use Rattle.std.specs.Vec.{with_item}
 use Rattle.std.proofs.lemmas.List.{length-take}
-use Rattle.std.proofs.lemmas.Bool.{false≢true, lt-ltb}
+use Rattle.std.proofs.lemmas.Bool.{lt-ltb}
 use Rattle.fault.specs.declared.TableFault.{TableFault}
 use Rattle.fault.specs.declared.TableFault.TheVariants.{NeverFits}
 use Rattle.task.specs.declared.Access.{Access}
@@ -17,7 +17,6 @@ use Rattle.ring.specs.declared.Ring.{Ring}
 use Rattle.ring.specs.Model.{contents_of}
 use Rattle.seat.specs.declared.seats.Seat.{Seat}
 use Rattle.seat.specs.declared.Standing.{Standing}
-use Rattle.seat.specs.declared.Standing.TheVariants.{Free, Waiting, Ready, Running}
 use Rattle.seat.specs.declared.Event.TheVariants.{Entered}
 use Rattle.seat.specs.Phases.{entered, moved, or_else, is_free_in}
 use Rattle.tracker.specs.declared.tracker.Tracker.{Tracker}
@@ -28,31 +27,26 @@ use Rattle.manager.specs.Sound.{is_free, Sound}
 use Rattle.manager.specs.Entered.{table_fault}
 use Rattle.manager.proofs.Fits.{stall_bares}
 use Rattle.manager.proofs.Seats.{lent_is, seat_set, seat_other}
+use Rattle.manager.proofs.Standings.{only_free}
 use Rattle.manager.proofs.FirstFree.{first_free, first_low, not_listed, few_tasks, ready_room, seat_absent}
 use Rattle.manager.proofs.Entering.{Entering}
 
 -- a line that is not empty gives up its first
 popped : (o : Option ℕ) (q q' : Ring ℕ) (s : ℕ) (rest : List ℕ) → contents_of q ≡ s ∷ rest →
     MatchOption o ((contents_of q ≡ []) × (q' ≡ q)) (λ x. contents_of q ≡ x ∷ contents_of q') → contents_of q ≡ s ∷ contents_of q'
-popped None q q' s rest first h = let none : contents_of q ≡ [] = h.0 in let no : ◌≡◌ {A = ℕ} 0 1 = cc in absurd (omega arith)
+popped None q q' s rest first h = let none : contents_of q ≡ [] = h.0 in absurd cc
 popped (Some x) q q' s rest first h =
     let both : x ∷ contents_of q' ≡ s ∷ rest = sym h ∙ first in
     let same : x ≡ s = cc in
     h ∙ ap (λ (t : ℕ). t ∷ contents_of q') same
 
 -- a free seat takes the task
-standing_free : (st : Standing) → is_free st ≡ true → st ≡ Free
-standing_free Free h = refl
-standing_free Waiting h = absurd (false≢true h)
-standing_free Ready h = absurd (false≢true h)
-standing_free (Running p) h = absurd (false≢true h)
-
 occupied_task : (r r' : Seat) (task : Task) → is_free r.standing ≡ true → r'.task ≡ cond (is_free_in r.standing) task r.task → r'.task ≡ task
-occupied_task r r' task free e = e ∙ ap (λ (st : Standing). cond (is_free_in st) task r.task) (standing_free r.standing free)
+occupied_task r r' task free e = e ∙ ap (λ (st : Standing). cond (is_free_in st) task r.task) (only_free r.standing free)
 
 occupied_standing : (r r' : Seat) (xs : List Access) (b : Bool) → is_free r.standing ≡ true →
     r'.standing ≡ or_else (moved xs r.standing (Entered b)) r.standing → r'.standing ≡ entered b
-occupied_standing r r' xs b free e = e ∙ ap (λ (st : Standing). or_else (moved xs st (Entered b)) st) (standing_free r.standing free)
+occupied_standing r r' xs b free e = e ∙ ap (λ (st : Standing). or_else (moved xs st (Entered b)) st) (only_free r.standing free)
 
 -- a task has at most 15 accesses
 few_accesses : (t : Task) → length (accesses_of t) ≤ 15
@@ -60,7 +54,7 @@ few_accesses t = let few = t.few in omega (arith, length-take t.count t.slots)
 
 -- a task that the tables take does not stall
 goes_on : (n : Bool) (fault : Option TableFault) → cond n (Some NeverFits) fault ≡ None → fault ≡ None
-goes_on true fault h = let no : ◌≡◌ {A = ℕ} 0 1 = cc in absurd (omega arith)
+goes_on true fault h = absurd cc
 goes_on false fault h = h
 
 no_stall : (z : Tables) (v : Roll) (free : List ℕ) (xs : List Access) (s : ℕ) (rest : List ℕ) → free ≡ s ∷ rest → table_fault z v free xs ≡ None →

@@ -1,5 +1,5 @@
 -- Which seat the tables give a task, or why they refuse it, from what each check answers. Assumes nothing.
-use Rattle.std.proofs.Common.{◌≡◌, ℕ, ◌+◌, ◌-◌, true, false, cond, ◌||◌, eqb, ltb, List, [], ◌∷◌, length, is_some, Some, None, Ok, Err, sym, ap, ap₂, arith}
+use Rattle.std.proofs.Common.{◌≡◌, ℕ, ◌+◌, ◌-◌, true, false, cond, ◌||◌, eqb, ltb, List, [], ◌∷◌, length, is_some, Some, None, Ok, Err, sym, ap, ap₂}
 use mathlib.Core.Path.{fun_ext}
 use Rattle.std.proofs.lemmas.Bool.{ne_eqb, or_from}
 use Rattle.fault.specs.declared.TableFault.{TableFault}
@@ -38,16 +38,16 @@ fits_from z xs some large = or_from (eqb z.seats 0) (ltb z.versions (length xs) 
 pub refuses_free : (z : Tables) (v : Roll) (free : List ℕ) (xs : List Access) → never_fits z xs ≡ false → None ≡ first_of free →
     Err NoFreeSeat ≡ seat_unless (table_fault z v free xs) free
 refuses_free z v [] xs fits none = rw fits
-refuses_free z v (s ∷ free) xs fits none = let no : ◌≡◌ {A = ℕ} 0 1 = cc in absurd (omega arith)
+refuses_free z v (s ∷ free) xs fits none = absurd cc
 
 -- with a free seat, the task is refused where it stalls for another reason
 pub refuses_stall : (z : Tables) (v : Roll) (free : List ℕ) (xs : List Access) (s : ℕ) (fault : TableFault) → never_fits z xs ≡ false → Some s ≡ first_of free →
     Some fault ≡ stall z v (0 ∷ []) xs → Err fault ≡ seat_unless (table_fault z v free xs) free
-refuses_stall z v [] xs s fault fits first stalls = let no : ◌≡◌ {A = ℕ} 0 1 = cc in absurd (omega arith)
+refuses_stall z v [] xs s fault fits first stalls = absurd cc
 refuses_stall z v (t ∷ free) xs s fault fits first stalls = rw (fits, sym stalls)
 
 -- and else it gets the first free seat
 pub gives_seat : (z : Tables) (v : Roll) (free : List ℕ) (xs : List Access) (s : ℕ) → never_fits z xs ≡ false → Some s ≡ first_of free →
     None ≡ stall z v (0 ∷ []) xs → Ok s ≡ seat_unless (table_fault z v free xs) free
-gives_seat z v [] xs s fits first goes = let no : ◌≡◌ {A = ℕ} 0 1 = cc in absurd (omega arith)
+gives_seat z v [] xs s fits first goes = absurd cc
 gives_seat z v (t ∷ free) xs s fits first goes = rw (fits, sym goes) (let same : s ≡ t = cc in ap Ok same)

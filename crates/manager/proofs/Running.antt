@@ -25,6 +25,7 @@ use Rattle.manager.specs.Stepped.{numbers_of, stepped_answer, stepped_standing, 
 use Rattle.manager.proofs.Moving.{moved_roll, moved_sound}
 use Rattle.manager.proofs.Records.{with_record, each_record, record_back}
 use Rattle.manager.proofs.Seats.{roll_found, roll_none, seat_low, lent_is}
+use Rattle.manager.proofs.Standings.{only_free}
 
 -- a call that does not answer leaves the state
 refused_leaves : {V : Type 0} (b : State V) (o : Outcome V) → is_ok (step_answer o) ≡ false → left_by b o ≡ b
@@ -62,20 +63,13 @@ step_left s (running (σ ∷ ss)) h = record { next = σ; rest = ss; is = refl }
 
 -- a seat with a running entry is neither free nor waiting nor ready
 not_running : {P : Type 0} (ss : List Step) (st : OnRoll) → st ≡ running ss → st ≡ waiting → P
-not_running ss st e f = let z : ◌≡◌ {A = ℕ} 0 1 = cc in absurd (omega arith)
+not_running ss st e f = absurd cc
 
 runs : (xs : List Access) (st : Standing) (ss : List Step) → standing_of xs st ≡ running ss → (is_free st ≡ false) × (is_waiting st ≡ false) × (is_ready st ≡ false)
 runs xs Free ss e = not_running ss waiting e refl
 runs xs Waiting ss e = not_running ss waiting e refl
-runs xs Ready ss e = let z : ◌≡◌ {A = ℕ} 0 1 = cc in absurd (omega arith)
+runs xs Ready ss e = absurd cc
 runs xs (Running p) ss e = (refl, refl, refl)
-
--- a free seat's entry answers as no entry does
-only_free : (xs : List Access) (st : Standing) → is_free st ≡ true → standing_of xs st ≡ waiting
-only_free xs Free h = refl
-only_free xs Waiting h = absurd (false≢true h)
-only_free xs Ready h = absurd (false≢true h)
-only_free xs (Running p) h = absurd (false≢true h)
 
 -- what a step of this seat, which answers this and leaves this record and these values, comes to: its answer, the state, and that the
 -- fields agree; at is the place of its record
@@ -104,7 +98,7 @@ module _ {V : Type 0} (i : Inner) (sound : Sound i) (s : ℕ) (r : Seat) (h : Fi
   step_answers =
       elim (cases_Bool (free_at i s)) [
         | inl free ↦
-            ap as_numbers (answer ∙ ap (stepped_answer s) (only_free entry.job.accesses (seat_at i s).standing free))
+            ap as_numbers (answer ∙ ap (λ (st : Standing). stepped_answer s (standing_of entry.job.accesses st)) (only_free (seat_at i s).standing free))
             ∙ sym (ap (λ (o : Option Entry). step_answer (stepped_at h (state_of i w) s o)) (roll_none i sound.seated s free))
         | inr taken ↦
             ap as_numbers answer ∙ sym (answer_by h (state_of i w) s entry.job entry.standing)

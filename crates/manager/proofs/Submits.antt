@@ -23,11 +23,11 @@ use Rattle.manager.specs.Entered.{table_fault, seat_unless}
 
 -- where no number passes the test, the first does not, and none of the others
 none_first : (p : ℕ → Bool) (i n : ℕ) (b : Bool) → cond b (Some i) (first_from p (suc i) n) ≡ None → b ≡ false
-none_first p i n true e = absurd (let z : ◌≡◌ {A = ℕ} 0 1 = cc in omega arith)
+none_first p i n true e = absurd cc
 none_first p i n false e = refl
 
 none_rest : (p : ℕ → Bool) (i n : ℕ) (b : Bool) → cond b (Some i) (first_from p (suc i) n) ≡ None → first_from p (suc i) n ≡ None
-none_rest p i n true e = absurd (let z : ◌≡◌ {A = ℕ} 0 1 = cc in omega arith)
+none_rest p i n true e = absurd cc
 none_rest p i n false e = e
 
 -- a test that holds nowhere among some numbers fails at each of them
@@ -52,12 +52,12 @@ apart_by (x ∷ xs) h = (
 -- no fault at an access: there is none, and no next fault
 fault_none : (o : Option ℕ) (f : ℕ → ManagerFault) (next : Option ManagerFault) → fault_at o f next ≡ None → (o ≡ None) × (next ≡ None)
 fault_none None f next e = (refl, e)
-fault_none (Some i) f next e = absurd (let z : ◌≡◌ {A = ℕ} 0 1 = cc in omega arith)
+fault_none (Some i) f next e = absurd cc
 
 -- a task without a fault of its own
 sound_task : (held : ℕ → Bool) (xs : List Access) (b : Bool) → ltb max_accesses (length xs) ≡ b →
     cond b (Some TooManyAccesses) (fault_at (repeated xs) RepeatedAddress (fault_at (not_held held xs) NotHeld None)) ≡ None → (length xs ≤ 15) × Apart xs
-sound_task held xs true q e = absurd (let z : ◌≡◌ {A = ℕ} 0 1 = cc in omega arith)
+sound_task held xs true q e = absurd cc
 sound_task held xs false q e =
     let none : repeated xs ≡ None = (fault_none (repeated xs) RepeatedAddress (fault_at (not_held held xs) NotHeld None) e).0 in
     (grind arith, apart_by xs (λ k lt. let z : 0 + k ≡ k = omega arith in subst (λ (n : ℕ). occurs (address_at xs n) (take n xs) ≡ false) z (none_at (λ i. occurs (address_at xs i) (take i xs)) 0 (length xs) none k lt)))
@@ -68,7 +68,7 @@ apart_from held xs e = sound_task held xs (ltb max_accesses (length xs)) refl e
 -- what the check of the task says
 pub unless_ok : (o : Option ManagerFault) (u : Unit {0}) → Ok u ≡ unless o → o ≡ None
 unless_ok None u e = refl
-unless_ok (Some f) u e = absurd (let z : ◌≡◌ {A = ℕ} 0 1 = cc in omega arith)
+unless_ok (Some f) u e = absurd cc
 
 -- what the tables refuse is a fault of the manager
 tables_fault : (b : Bool) (s : Option TableFault) → or_else (cond b (Some (Table NeverFits)) None) (by_tables s) ≡ by_tables (cond b (Some NeverFits) s)
@@ -89,7 +89,7 @@ module _ {V : Type 0} (b : State V) (name kind : ℕ) (xs : List Access) (z : Ta
   refuses_by : (o : Option TableFault) (free : List ℕ) (f : TableFault) → Err f ≡ seat_unless o free → submitted b name kind xs (by_tables o) (give_seat free) ≡ refused (Table f)
   refuses_by (Some f') free f e = cc
   refuses_by None [] f e = cc
-  refuses_by None (s ∷ free) f e = absurd (let z : ◌≡◌ {A = ℕ} 0 1 = cc in omega arith)
+  refuses_by None (s ∷ free) f e = absurd cc
 
   -- the tables refuse
   pub seat_refuses : task_fault held xs ≡ None → (f : TableFault) → Err f ≡ seat_unless (table_fault z b.roll b.free_line xs) b.free_line → submission ≡ refused (Table f)
@@ -97,8 +97,8 @@ module _ {V : Type 0} (b : State V) (name kind : ℕ) (xs : List Access) (z : Ta
 
   gives_by : (o : Option TableFault) (free : List ℕ) (s : ℕ) → Ok s ≡ seat_unless o free →
       (o ≡ None) × ((rest : List ℕ) × (free ≡ s ∷ rest) × (submitted b name kind xs (by_tables o) (give_seat free) ≡ succeeded (accepted b name kind xs s rest)))
-  gives_by (Some f) free s e = absurd (let z : ◌≡◌ {A = ℕ} 0 1 = cc in omega arith)
-  gives_by None [] s e = absurd (let z : ◌≡◌ {A = ℕ} 0 1 = cc in omega arith)
+  gives_by (Some f) free s e = absurd cc
+  gives_by None [] s e = absurd cc
   gives_by None (t ∷ free) s e = let same : t ≡ s = cc in (refl, (free, ap (λ (x : ℕ). x ∷ free) same, ap (λ (x : ℕ). succeeded (accepted b name kind xs x free)) same))
 
   -- the task gets the first free seat

@@ -41,7 +41,7 @@ impl Inner {
             return false;
         }
         let Some(occupant) = self.table.find(usize::from(seat)) else {
-            return false;
+            unreachable!()
         };
         occupant.on(Event::Unblocked) && self.ready.push(seat)
     }
