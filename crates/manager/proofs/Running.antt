@@ -62,12 +62,9 @@ step_left s (running []) h = absurd (false≢true h)
 step_left s (running (σ ∷ ss)) h = record { next = σ; rest = ss; is = refl }
 
 -- a seat with a running entry is neither free nor waiting nor ready
-not_running : {P : Type 0} (ss : List Step) (st : OnRoll) → st ≡ running ss → st ≡ waiting → P
-not_running ss st e f = absurd cc
-
 runs : (xs : List Access) (st : Standing) (ss : List Step) → standing_of xs st ≡ running ss → (is_free st ≡ false) × (is_waiting st ≡ false) × (is_ready st ≡ false)
-runs xs Free ss e = not_running ss waiting e refl
-runs xs Waiting ss e = not_running ss waiting e refl
+runs xs Free ss e = absurd cc
+runs xs Waiting ss e = absurd cc
 runs xs Ready ss e = absurd cc
 runs xs (Running p) ss e = (refl, refl, refl)
 

@@ -1,7 +1,7 @@
 use Rattle.std.proofs.Common.{◌≡◌, ℕ, ◌+◌, ◌≤◌, Bool, true, false, length, sym, refl, ap, ◌∙◌, arith}
 use mir.Val.{bool_byte}
 use Rattle.roll.specs.Tables.{tally}
-use Rattle.manager.proofs.Awake.{line_none, walk_start, place_none, place_seat, line_few, line_woken, awake_state, awake_sound}
+use Rattle.manager.proofs.Awake.{line_none, walk_start, place_seat, line_few, line_woken, awake_state, awake_sound}
 use Rattle.manager.proofs.Occurs.{tally_one}
 use Rattle.manager.proofs.inner.Inner.wake.Goals as goal
 
@@ -21,10 +21,6 @@ overflow_add-count c =
     omega arith
 
 -- the count and the fields after one place
-pub loop-place-preserved-in_default : goal.loop-place-preserved-in_default
-loop-place-preserved-in_default c =
-    place_none c.args.self.now c.loop-place.self c.loop-place.place c.loop-place.count c.loop-place.invariant.0 c.loop-place.invariant.1 c.in_default.ensures.cases
-
 pub loop-place-preserved : goal.loop-place-preserved
 loop-place-preserved c =
     let r : Bool = c.rouse.result in
