@@ -16,12 +16,12 @@ use Rattle.seat.specs.declared.seats.Seat.{Seat}
 use Rattle.seat.specs.declared.Standing.{Standing}
 use Rattle.seat.specs.Phases.{entered, standing_of}
 use Rattle.tracker.specs.declared.tracker.Tracker.{Tracker}
-use Rattle.tracker.specs.Tracked.{Tracked, blocked_at, sized}
+use Rattle.tracker.specs.Tracked.{Tracked, blocked_at}
 use Rattle.tracker.proofs.Laws.{tracked_blocked}
 use Rattle.manager.specs.declared.inner.Inner.{Inner}
 use Rattle.manager.specs.Answers.{no_values}
 use Rattle.manager.specs.Lines.{occurrences}
-use Rattle.manager.specs.Model.{seat_at, entry_of, roll_of, ready_of, free_of, state_of, tables_of}
+use Rattle.manager.specs.Model.{seat_at, entry_of, roll_of, ready_of, free_of, state_of}
 use Rattle.manager.specs.Sound.{is_free, is_waiting, is_ready, free_at, waiting_at, ready_at, Sound}
 use Rattle.manager.proofs.Occurs.{occurrences_push, tally_one, tally_same, tally_other}
 use Rattle.manager.proofs.Rolls.{map_same}
@@ -98,10 +98,6 @@ module _ (i i' : Inner) (s : ℕ) (task : Task) (b : Bool) (sound : Sound i) (e 
       let after : (v : Bool) → State (Unit {0}) = λ v. record { roll = roll_of i ++ (entry s task v ∷ []); ready_line = cond v (ready_of i) (ready_of i ++ (s ∷ [])); free_line = rest; values = no_values } in
       let fields : state_of i' no_values ≡ after b = λ j. record { roll = roll_entered j; ready_line = e.ready j; free_line = left j; values = no_values } in
       fields ∙ ap after stop
-
-  -- the sizes of the tables stay
-  pub tables_entered : tables_of i' ≡ tables_of i
-  tables_entered = ap₂ sized e.seats e.versions
 
   -- the tables stand for the roll
   bares_entered : bares (roll_of i') ≡ bares (roll_of i) ++ (bare s (accesses_of task) ∷ [])

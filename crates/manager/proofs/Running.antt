@@ -2,7 +2,7 @@
 --   step_told       by the seat's record before the step and after it: the answer, the state, and that the fields still agree
 --   step_none       where there is no such seat
 use Rattle.std.proofs.Common.{◌≡◌, ℕ, ◌≤◌, ◌<◌, true, false, ltb, List, [], ◌∷◌, get_or, vec_items, vec_len, is_ok, None, Ok, Err, Option, Result, sym, refl, ap, ◌∙◌, subst, ap₂, inl, inr, arith}
-use Rattle.std.proofs.lemmas.Bool.{cases_Bool, ltb-true, ltb-false, false≢true, true≢false}
+use Rattle.std.proofs.lemmas.Bool.{cases_Bool, ltb-true, ltb-false}
 use Rattle.fault.specs.declared.ManagerFault.{ManagerFault}
 use Rattle.task.specs.declared.Access.{Access}
 use Rattle.task.specs.Task.{accesses_of}
@@ -30,7 +30,7 @@ use Rattle.manager.proofs.Standings.{only_free}
 -- a call that does not answer leaves the state
 refused_leaves : {V : Type 0} (b : State V) (o : Outcome V) → is_ok (step_answer o) ≡ false → left_by b o ≡ b
 refused_leaves b (refused fault) h = refl
-refused_leaves b (succeeded r) h = absurd (true≢false h)
+refused_leaves b (succeeded r) h = absurd cc
 
 -- what a step answers, as the two plain numbers that the call answers
 abbrev pub as_numbers : Result StepDone ManagerFault → Result (ℕ × ℕ) ManagerFault
@@ -56,9 +56,9 @@ pub record Left (st : OnRoll) : Type 0 where
   pub is : st ≡ running (next ∷ rest)
 
 step_left : (s : ℕ) (st : OnRoll) → is_ok (stepped_answer s st) ≡ true → Left st
-step_left s waiting h = absurd (false≢true h)
-step_left s ready h = absurd (false≢true h)
-step_left s (running []) h = absurd (false≢true h)
+step_left s waiting h = absurd cc
+step_left s ready h = absurd cc
+step_left s (running []) h = absurd cc
 step_left s (running (σ ∷ ss)) h = record { next = σ; rest = ss; is = refl }
 
 -- a seat with a running entry is neither free nor waiting nor ready

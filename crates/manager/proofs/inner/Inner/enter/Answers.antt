@@ -1,6 +1,6 @@
-use Rattle.std.proofs.Common.{Bool, cond, [], ◌∷◌, ◌++◌, sym, ap, ◌∙◌}
+use Rattle.std.proofs.Common.{Bool, cond, [], ◌∷◌, ◌++◌, sym, refl, ap, ◌∙◌}
 use Rattle.manager.specs.Model.{ready_of}
-use Rattle.manager.proofs.Entering.{state_entered, tables_entered, sound_entered}
+use Rattle.manager.proofs.Entering.{state_entered, sound_entered}
 use Rattle.manager.proofs.EnteringSteps.{readied, entering}
 use Rattle.manager.proofs.inner.Inner.enter.Goals as goal
 
@@ -20,7 +20,7 @@ returns-then-not-blocked c =
     let e = entering i sound s task rest first c.from.result c.from.ensures c.in-Some.occupant.now c.occupy.new.self b c.in-Some.ensures.follows_facts.1
     c.occupy.ensures.task c.occupy.ensures.standing c.pop.result c.pop.new.self c.pop.ensures.cases c.push.new.self c.push.result c.push.ensures.answer
     c.push.ensures.listed c.enter-blocked.new.self c.accesses.result.now c.accesses.ensures c.enter-blocked.ensures c.requires.apart c.requires.fits _ line in
-    record { after = state_entered i _ s task b sound e; tables = tables_entered i _ s task b sound e; sound = sound_entered i _ s task b sound e }
+    record { after = state_entered i _ s task b sound e; tables = refl; sound = sound_entered i _ s task b sound e }
 
 -- the task waits: the ready line stays
 pub returns-else-not-blocked : goal.returns-else-not-blocked
@@ -36,4 +36,4 @@ returns-else-not-blocked c =
     let e = entering i sound s task rest first c.from.result c.from.ensures c.in-Some.occupant.now c.occupy.new.self b c.in-Some.ensures.follows_facts.1
     c.occupy.ensures.task c.occupy.ensures.standing c.pop.result c.pop.new.self c.pop.ensures.cases c.push.new.self c.push.result c.push.ensures.answer
     c.push.ensures.listed c.enter-blocked.new.self c.accesses.result.now c.accesses.ensures c.enter-blocked.ensures c.requires.apart c.requires.fits _ line in
-    record { after = state_entered i _ s task b sound e; tables = tables_entered i _ s task b sound e; sound = sound_entered i _ s task b sound e }
+    record { after = state_entered i _ s task b sound e; tables = refl; sound = sound_entered i _ s task b sound e }
