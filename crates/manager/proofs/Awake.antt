@@ -2,8 +2,10 @@
 --   Walked                 what holds after the places before one
 --   walk_start, place_none, place_seat   the walk
 --   awake_state, awake_sound             its end: every task that may is ready
-use Rattle.std.proofs.Common.{◌≡◌, ℕ, ◌+◌, ◌<◌, ◌≤◌, Bool, true, false, cond, not, ◌&&◌, ◌||◌, eqb, List, [], ◌∷◌, ◌++◌, map, length, sym, refl, ap, ◌∙◌, subst, ap₂, inl, inr, append_assoc, append-nil, arith, length-append}
-use Rattle.std.proofs.lemmas.Bool.{eqb-true, eq-eqb, both_ways, and_parts, and_left, and_right, cases_Bool}
+use Rattle.std.proofs.Common.{◌≡◌, ℕ, ◌+◌, ◌<◌, ◌≤◌, Bool, true, false, cond, not, ◌&&◌, ◌||◌, eqb, List, [], ◌∷◌, ◌++◌, map, filter, length, sym, refl, ap, ◌∙◌, subst, ap₂, inl, inr, append_assoc, append-nil, arith, length-append}
+use Rattle.std.proofs.lemmas.Bool.{eqb-true, eq-eqb, both_ways, and_parts, and_left, and_right, not-true, cases_Bool}
+use Rattle.std.proofs.lemmas.List.Elements.{filter-append}
+use Rattle.std.proofs.lemmas.List.Sums.{length-filter, count_by-le-length}
 use Rattle.acceptance.specs.declared.Acceptance.{Acceptance}
 use Rattle.acceptance.specs.Listed.{member, below, listed, place_of}
 use Rattle.acceptance.proofs.Laws.{from_place}
@@ -29,16 +31,16 @@ use Rattle.manager.specs.Sound.{is_free, is_waiting, free_at, waiting_at, Seated
 use Rattle.manager.proofs.Decided.{entry_at, idle_at, tables_decide}
 use Rattle.manager.proofs.Passed.{passed, passed_first, passed_few, passed_apart, passed_new, passed_has, passed_not}
 use Rattle.manager.proofs.Rolls.{map_same}
-use Rattle.manager.proofs.Roused.{waiting_not_free}
+use Rattle.manager.proofs.Standings.{waiting_not_free}
 use Rattle.manager.proofs.Seats.{seat_listed, entries_own}
-use Rattle.manager.proofs.Wakes.{member-++, kept, kept-++, length_kept, kept_none, kept_same, stirs, Decides, woken_entry, wake_map, woken_kept}
+use Rattle.manager.proofs.Wakes.{member-++, filter_none, filter_same, stirs, Decides, woken_entry, wake_map, woken_filter}
 
 -- which seats were reached, and which of them became ready
 abbrev pub reached : Inner → ℕ → ℕ → Bool
 reached i p t = wakes i t && member t (passed i.order p)
 
 abbrev pub line_at : Inner → ℕ → List ℕ
-line_at i p = kept (wakes i) (passed i.order p)
+line_at i p = filter (wakes i) (passed i.order p)
 
 -- after the places before one: the tasks of the seats there that may wake are ready, and have joined the ready line in their order
 abbrev pub Walked : Inner → Inner → ℕ → Type 0
@@ -68,7 +70,7 @@ and_first false b e h = refl
 
 -- so nothing has joined the ready line
 pub line_none : (i : Inner) (span : Span) → Waking i span → line_at i span.first ≡ []
-line_none i span k = kept_none (wakes i) (passed i.order span.first) (λ t h. and_first (wakes i t) (member t (passed i.order span.first)) (start_none i span k t) h)
+line_none i span k = filter_none (wakes i) (passed i.order span.first) (λ t h. and_first (wakes i t) (member t (passed i.order span.first)) (start_none i span k t) h)
 
 pub walk_start : (i : Inner) (span : Span) → Waking i span → Walked i i span.first
 walk_start i span k =
@@ -86,7 +88,7 @@ walk_start i span k =
 
 -- a place with no seat
 walk_still : (i j : Inner) (p q : ℕ) → passed i.order q ≡ passed i.order p → Walked i j p → Walked i j q
-walk_still i j p q e h = subst (λ (l : List ℕ). BecameReady i j (λ t. wakes i t && member t l) (kept (wakes i) l)) (sym e) h
+walk_still i j p q e h = subst (λ (l : List ℕ). BecameReady i j (λ t. wakes i t && member t l) (filter (wakes i) l)) (sym e) h
 
 -- a task that was not reached wakes as at the start
 wakes_same : (i j : Inner) (p s : ℕ) → Walked i j p → member s (passed i.order p) ≡ false → wakes j s ≡ wakes i s
@@ -108,7 +110,7 @@ standing_more true false false false st new same = refl
 -- the seats that joined the ready line, one place further
 line_more : (i : Inner) (p s : ℕ) (r : Bool) → passed i.order (p + 1) ≡ passed i.order p ++ (s ∷ []) → r ≡ wakes i s → line_at i p ++ cond r (s ∷ []) [] ≡ line_at i (p + 1)
 line_more i p s r e same =
-    ap (λ (b : Bool). line_at i p ++ cond b (s ∷ []) []) same ∙ sym (kept-++ (wakes i) (passed i.order p) (s ∷ [])) ∙ ap (kept (wakes i)) (sym e)
+    ap (λ (b : Bool). line_at i p ++ cond b (s ∷ []) []) same ∙ sym (filter-append (wakes i) (passed i.order p) (s ∷ [])) ∙ ap (filter (wakes i)) (sym e)
 
 -- a place with a seat, whose task becomes ready if it may
 walk_more : (i j k : Inner) (p s : ℕ) (r : Bool) → passed i.order (p + 1) ≡ passed i.order p ++ (s ∷ []) → member s (passed i.order p) ≡ false →
@@ -139,7 +141,7 @@ pub place_none : (i j : Inner) (p n : ℕ) → Walked i j p → n ≡ length (li
 place_none i j p n h count none =
     let e : passed i.order (p + 1) ≡ passed i.order p =
     subst (λ (a : Acceptance). passed a (p + 1) ≡ passed a p) h.order none in
-    (walk_still i j p (p + 1) e h, count ∙ ap (λ (l : List ℕ). length (kept (wakes i) l)) (sym e))
+    (walk_still i j p (p + 1) e h, count ∙ ap (λ (l : List ℕ). length (filter (wakes i) l)) (sym e))
 
 -- or one does
 more_by : (n m : ℕ) (xs : List ℕ) (s : ℕ) (r : Bool) → n ≡ length xs → m ≡ n + tally r → m ≡ length (xs ++ cond r (s ∷ []) [])
@@ -158,7 +160,7 @@ place_seat i j k p s n m r h count sum there answer g =
 
 -- there are few enough to be counted
 pub line_few : (i : Inner) (p : ℕ) → length (line_at i p) ≤ 256
-line_few i p = let few = passed_few i.order p in let part = length_kept (wakes i) (passed i.order p) in omega arith
+line_few i p = let few = passed_few i.order p in omega (arith, length-filter (wakes i) (passed i.order p), count_by-le-length (wakes i) (passed i.order p))
 
 -- on the roll, a task in a seat that is not free becomes ready exactly if it may
 stirs_wakes : (xs : List Access) (st : Standing) (idle : Bool) → is_free st ≡ false → stirs idle (standing_of xs st) ≡ (is_waiting st && idle)
@@ -182,11 +184,7 @@ module _ (i j : Inner) (span : Span) (p : ℕ) (k : Waking i span) (h : Walked i
   all_reached t w = let near = (wakes_covered i span k t w).1 in passed_has i.order p t (wakes_listed i k.seated t w) (omega arith)
 
   taken : (t : ℕ) → member t (listed i.order) ≡ true → free_at i t ≡ false
-  taken t m = not_taken (free_at i t) (sym (k.seated.listed_seats t) ∙ m)
-    where
-      not_taken : (b : Bool) → not b ≡ true → b ≡ false
-      not_taken true e = sym e
-      not_taken false e = refl
+  taken t m = not-true (free_at i t) (sym (k.seated.listed_seats t) ∙ m)
 
   behind_none : (t : ℕ) → member t (from_place i.order p) ≡ true → wakes i t ≡ false
   behind_none t m =
@@ -203,11 +201,11 @@ module _ (i j : Inner) (span : Span) (p : ℕ) (k : Waking i span) (h : Walked i
   line_woken =
       let l = listed i.order in
       let rest = from_place i.order p in
-      let all : kept (wakes i) l ≡ line_at i p =
-      ap (kept (wakes i)) (passed_first i.order p) ∙ kept-++ (wakes i) (passed i.order p) rest ∙ ap (λ (x : List ℕ). line_at i p ++ x) (kept_none (wakes i) rest behind_none) ∙ append-nil (line_at i p) in
+      let all : filter (wakes i) l ≡ line_at i p =
+      ap (filter (wakes i)) (passed_first i.order p) ∙ filter-append (wakes i) (passed i.order p) rest ∙ ap (λ (x : List ℕ). line_at i p ++ x) (filter_none (wakes i) rest behind_none) ∙ append-nil (line_at i p) in
       sym all
-      ∙ kept_same (wakes i) (λ t. stirs (idle_at i t) (entry_at i t).standing) l (λ t m. sym (stirs_wakes (accesses_of (seat_at i t).task) (seat_at i t).standing (idle_at i t) (taken t m)))
-      ∙ sym (woken_kept (entry_at i) (idle_at i) [] l (entries_own i) decided)
+      ∙ filter_same (wakes i) (λ t. stirs (idle_at i t) (entry_at i t).standing) l (λ t m. sym (stirs_wakes (accesses_of (seat_at i t).task) (seat_at i t).standing (idle_at i t) (taken t m)))
+      ∙ sym (woken_filter (entry_at i) (idle_at i) [] l (entries_own i) decided)
 
   -- the entry of a listed seat
   entry_woken : (t : ℕ) → member t (listed i.order) ≡ true → entry_at j t ≡ woken_entry (entry_at i) (idle_at i) t

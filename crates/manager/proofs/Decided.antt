@@ -24,9 +24,9 @@ abbrev pub idle_at : Inner → ℕ → Bool
 idle_at i t = eqb (blocked_at i.tracker t) 0
 
 -- the roll of a list of seats that is split at one of them, with nothing but seats and accesses
-pub bares_split : (i : Inner) (pre post : List ℕ) (t : ℕ) →
-    bares (map (entry_at i) (pre ++ (t ∷ post))) ≡ bares (map (entry_at i) pre) ++ (bare t (accesses_of (seat_at i t).task) ∷ bares (map (entry_at i) post))
-bares_split i pre post t = ap bares (map-append (entry_at i) pre (t ∷ post)) ∙ bares-++ (map (entry_at i) pre) (entry_at i t ∷ map (entry_at i) post)
+pub bares_split : (f : ℕ → Entry) (pre : List ℕ) (t : ℕ) (post : List ℕ) →
+    bares (map f (pre ++ (t ∷ post))) ≡ bares (map f pre) ++ (bare (f t).job.seat (f t).job.accesses ∷ bares (map f post))
+bares_split f pre t post = ap bares (map-append f pre (t ∷ post)) ∙ bares-++ (map f pre) (f t ∷ map f post)
 
 not_turn : (a b : Bool) → a ≡ not b → b ≡ not a
 not_turn true true e = e
@@ -38,6 +38,6 @@ not_turn false false e = e
 pub tables_decide : (i : Inner) (z : Tracker) (l : List ℕ) → Tracked z (bares (map (entry_at i) l)) → Decides (entry_at i) (λ t. eqb (blocked_at z t) 0) [] l
 tables_decide i z l k pre post t e =
     let xs : List Access = accesses_of (seat_at i t).task in
-    let split = subst (λ (v : Roll). Tracked z v) (ap (λ (m : List ℕ). bares (map (entry_at i) m)) e ∙ bares_split i pre post t) k in
+    let split = subst (λ (v : Roll). Tracked z v) (ap (λ (m : List ℕ). bares (map (entry_at i) m)) e ∙ bares_split (entry_at i) pre t post) k in
     let law = tracked_blocked z (bares (map (entry_at i) pre)) (bares (map (entry_at i) post)) (bare t xs) split in
     blocked_bares (map (entry_at i) pre) xs ∙ not_turn (eqb (blocked_at z t) 0) (blocked (bares (map (entry_at i) pre)) xs) law

@@ -1,5 +1,6 @@
 -- A task enters the first free seat: what the fields stand for after it, and that they agree again. Assumes nothing.
 use Rattle.std.proofs.Common.{◌≡◌, ℕ, ◌+◌, ◌<◌, Bool, true, false, cond, not, ◌&&◌, ◌||◌, eqb, ltb, List, [], ◌∷◌, ◌++◌, map, vec_len, sym, refl, ap, ◌∙◌, ap₂, inl, inr, append_assoc, arith}
+use mathlib.Core.Bool.{and-true, or-false, not-not}
 use Rattle.std.proofs.lemmas.List.{map-append}
 use Rattle.std.proofs.lemmas.Bool.{ltb-true, eq-eqb, ne_eqb, or_right, and_right, both_ways, cases_eq}
 use Rattle.task.specs.declared.tasks.Task.{Task}
@@ -15,17 +16,19 @@ use Rattle.seat.specs.declared.seats.Seat.{Seat}
 use Rattle.seat.specs.declared.Standing.{Standing}
 use Rattle.seat.specs.Phases.{entered, standing_of}
 use Rattle.tracker.specs.declared.tracker.Tracker.{Tracker}
-use Rattle.tracker.specs.Tracked.{Tracked, blocked_at, sized}
+use Rattle.tracker.specs.Tracked.{Tracked, blocked_at}
 use Rattle.tracker.proofs.Laws.{tracked_blocked}
 use Rattle.manager.specs.declared.inner.Inner.{Inner}
 use Rattle.manager.specs.Answers.{no_values}
 use Rattle.manager.specs.Lines.{occurrences}
-use Rattle.manager.specs.Model.{seat_at, entry_of, roll_of, ready_of, free_of, state_of, tables_of}
+use Rattle.manager.specs.Model.{seat_at, entry_of, roll_of, ready_of, free_of, state_of}
 use Rattle.manager.specs.Sound.{is_free, is_waiting, is_ready, free_at, waiting_at, ready_at, Sound}
 use Rattle.manager.proofs.Occurs.{occurrences_push, tally_one, tally_same, tally_other}
 use Rattle.manager.proofs.Rolls.{map_same}
 use Rattle.manager.proofs.Seats.{seat_listed}
-use Rattle.manager.proofs.FirstFree.{free_unready, first_free, not_listed}
+use Rattle.manager.proofs.Decided.{bares_split}
+use Rattle.manager.proofs.Standings.{free_not_ready}
+use Rattle.manager.proofs.FirstFree.{first_free, not_listed}
 
 -- what happens to each field when a task enters a seat, where it is blocked or not
 pub record Entering (i i' : Inner) (s : ℕ) (task : Task) (b : Bool) : Type 0 where
@@ -41,32 +44,15 @@ pub record Entering (i i' : Inner) (s : ℕ) (task : Task) (b : Bool) : Type 0 w
   pub blocks : b ≡ blocked (bares (roll_of i)) (accesses_of task)
   pub tracked : Tracked i'.tracker (bares (roll_of i) ++ (bare s (accesses_of task) ∷ []))
 
--- a test beside one that fails, or that holds, says the same alone
-or_false : (v : Bool) {w : Bool} → w ≡ false → (v || w) ≡ v
-or_false true h = refl
-or_false false h = h
-
-and_true : (v : Bool) {w : Bool} → w ≡ true → (v && w) ≡ v
-and_true true h = h
-and_true false h = refl
-
-not_twice : (v : Bool) → not (not v) ≡ v
-not_twice true = refl
-not_twice false = refl
-
 -- a list with one number more has that number and those that it had
 member_push : (t : ℕ) (l : List ℕ) (s : ℕ) → member t (l ++ (s ∷ [])) ≡ (member t l || eqb t s)
-member_push t [] s = or_false (eqb t s) refl
+member_push t [] s = or-false (eqb t s)
 member_push t (x ∷ l) s = elim (eqb t x) as (λ v. (v || member t (l ++ (s ∷ []))) ≡ ((v || member t l) || eqb t s)) [ true ↦ refl | false ↦ member_push t l s ]
 
 -- a line that gains a number unless a test holds
 occurrences_unless : (t s : ℕ) (v : Bool) (l : List ℕ) → occurrences t (cond v l (l ++ (s ∷ []))) ≡ occurrences t l + tally (not v && eqb s t)
 occurrences_unless t s true l = omega arith
 occurrences_unless t s false l = occurrences_push t l s
-
--- the seats and accesses of a roll before and behind one seat
-bares_split : (f : ℕ → Entry) (pre : List ℕ) (t : ℕ) (post : List ℕ) → bares (map f (pre ++ (t ∷ post))) ≡ bares (map f pre) ++ (bare (f t).job.seat (f t).job.accesses ∷ bares (map f post))
-bares_split f pre t post = ap bares (map-append f pre (t ∷ post)) ∙ bares-++ (map f pre) (map f (t ∷ post))
 
 -- tasks behind a task do not change whether it is blocked
 blocked_same : (tr tr' : Tracker) (pre post more : Roll) (x : Entry) → Tracked tr (pre ++ (x ∷ post)) → Tracked tr' ((pre ++ (x ∷ post)) ++ more) →
@@ -113,10 +99,6 @@ module _ (i i' : Inner) (s : ℕ) (task : Task) (b : Bool) (sound : Sound i) (e 
       let fields : state_of i' no_values ≡ after b = λ j. record { roll = roll_entered j; ready_line = e.ready j; free_line = left j; values = no_values } in
       fields ∙ ap after stop
 
-  -- the sizes of the tables stay
-  pub tables_entered : tables_of i' ≡ tables_of i
-  tables_entered = ap₂ sized e.seats e.versions
-
   -- the tables stand for the roll
   bares_entered : bares (roll_of i') ≡ bares (roll_of i) ++ (bare s (accesses_of task) ∷ [])
   bares_entered = ap bares roll_entered ∙ bares-++ (roll_of i) (entry s task b ∷ [])
@@ -133,7 +115,7 @@ module _ (i i' : Inner) (s : ℕ) (task : Task) (b : Bool) (sound : Sound i) (e 
   listed_here = or_right (member s (listed i.order)) (eqb s s) (eq-eqb s s refl) ∙ ap not (sym free_here)
 
   listed_other : (t : ℕ) → (t ≡ s → ⊥) → (member t (listed i.order) || eqb t s) ≡ not (free_at i' t)
-  listed_other t ne = or_false (member t (listed i.order)) (ne_eqb t s ne) ∙ sound.seated.listed_seats t ∙ ap not (sym (free_other t ne))
+  listed_other t ne = ap (λ (v : Bool). member t (listed i.order) || v) (ne_eqb t s ne) ∙ or-false (member t (listed i.order)) ∙ sound.seated.listed_seats t ∙ ap not (sym (free_other t ne))
 
   listed_entered : (t : ℕ) → member t (listed i'.order) ≡ not (free_at i' t)
   listed_entered t =
@@ -172,8 +154,8 @@ module _ (i i' : Inner) (s : ℕ) (task : Task) (b : Bool) (sound : Sound i) (e 
   -- the ready line has gained it unless the task is blocked
   lined_here : occurrences s (ready_of i) + tally (not b && eqb s s) ≡ tally (ready_at i' s)
   lined_here =
-      let none : occurrences s (ready_of i) ≡ 0 = sound.seated.lined s ∙ ap tally (free_unready (seat_at i s).standing (first_free i sound.seated s (free_of i') e.free)) in
-      let one : tally (not b && eqb s s) ≡ tally (not b) = ap tally (and_true (not b) (eq-eqb s s refl)) in
+      let none : occurrences s (ready_of i) ≡ 0 = sound.seated.lined s ∙ ap tally (free_not_ready (seat_at i s).standing (first_free i sound.seated s (free_of i') e.free)) in
+      let one : tally (not b && eqb s s) ≡ tally (not b) = ap (λ (v : Bool). tally (not b && v)) (eq-eqb s s refl) ∙ ap tally (and-true (not b)) in
       let now : tally (ready_at i' s) ≡ tally (not b) = ap tally (ap is_ready e.stands ∙ (stands_blocked b).2) in
       omega arith
 
@@ -191,7 +173,7 @@ module _ (i i' : Inner) (s : ℕ) (task : Task) (b : Bool) (sound : Sound i) (e 
   waits_here : waiting_at i' s ≡ not (eqb (blocked_at i'.tracker s) 0)
   waits_here =
       let law = tracked_blocked i'.tracker (bares (roll_of i)) [] (bare s (accesses_of task)) e.tracked in
-      ap is_waiting e.stands ∙ (stands_blocked b).1 ∙ sym (not_twice b) ∙ ap (λ (v : Bool). not (not v)) e.blocks ∙ ap not (sym law)
+      ap is_waiting e.stands ∙ (stands_blocked b).1 ∙ sym (not-not b) ∙ ap (λ (v : Bool). not (not v)) e.blocks ∙ ap not (sym law)
 
   waits_other : (t : ℕ) → (t ≡ s → ⊥) → free_at i' t ≡ false → waiting_at i' t ≡ not (eqb (blocked_at i'.tracker t) 0)
   waits_other t ne taken =

@@ -1,5 +1,5 @@
 -- What a finish comes to, by the standing of the seat. Assumes nothing.
-use Rattle.std.proofs.Common.{◌≡◌, ℕ, true, false, List, [], Ok, Err, Result, sym, refl, ap, ◌∙◌, subst, arith}
+use Rattle.std.proofs.Common.{◌≡◌, ℕ, true, false, List, [], Ok, Err, Result, sym, refl, ap, ◌∙◌, subst}
 use Rattle.fault.specs.declared.ManagerFault.{ManagerFault}
 use Rattle.task.specs.declared.Access.{Access}
 use Rattle.task.specs.Task.{accesses_of}
@@ -56,9 +56,9 @@ module _ (i : Inner) (seated : Seated i) (s : ℕ) where
 
 -- only a running task with no step left may finish
 pub finish_done : (s t : ℕ) (st : Standing) → ◌≡◌ {A = Result ℕ ManagerFault} (Ok t) (may_finish s st) → st ≡ Running Done
-finish_done s t Free e = absurd (let z : ◌≡◌ {A = ℕ} 0 1 = cc in omega arith)
-finish_done s t Waiting e = absurd (let z : ◌≡◌ {A = ℕ} 0 1 = cc in omega arith)
-finish_done s t Ready e = absurd (let z : ◌≡◌ {A = ℕ} 0 1 = cc in omega arith)
-finish_done s t (Running (Bring a n)) e = absurd (let z : ◌≡◌ {A = ℕ} 0 1 = cc in omega arith)
-finish_done s t (Running (Put a n)) e = absurd (let z : ◌≡◌ {A = ℕ} 0 1 = cc in omega arith)
+finish_done s t Free e = absurd cc
+finish_done s t Waiting e = absurd cc
+finish_done s t Ready e = absurd cc
+finish_done s t (Running (Bring a n)) e = absurd cc
+finish_done s t (Running (Put a n)) e = absurd cc
 finish_done s t (Running Done) e = refl

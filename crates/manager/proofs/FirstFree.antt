@@ -4,10 +4,9 @@
 --   not_listed, few_listed   it is not listed, and fewer than 256 are
 --   ready_room               the ready line has room for it
 --   seat_absent, few_tasks   no task of the roll has it, and there are fewer than 256
-use Rattle.std.proofs.Common.{◌≡◌, ℕ, ◌<◌, ◌≤◌, Bool, true, false, ◌&&◌, eqb, ltb, List, [], ◌∷◌, map, length, vec_items, vec_len, sym, refl, ap, ◌∙◌, inl, inr, arith}
+use Rattle.std.proofs.Common.{◌≡◌, ℕ, ◌<◌, ◌≤◌, true, false, ◌&&◌, eqb, ltb, List, [], ◌∷◌, map, length, sym, refl, ap, ◌∙◌, inl, inr, arith}
 use lib.ListN.{length-map}
-use Rattle.std.proofs.lemmas.List.{get_or_past}
-use Rattle.std.proofs.lemmas.Bool.{eqb-true, ltb-true, and_parts, or_parts, not-false, false≢true, cases_Bool}
+use Rattle.std.proofs.lemmas.Bool.{ltb-true, and_parts, or_parts, cases_Bool}
 use Rattle.roll.specs.Roll.{Entry}
 use Rattle.roll.specs.Tables.{tally}
 use Rattle.acceptance.specs.declared.Acceptance.{Acceptance}
@@ -15,28 +14,14 @@ use Rattle.acceptance.specs.Listed.{member, listed, below, place_of}
 use Rattle.acceptance.proofs.Laws.{before_place, listed_apart, listed_low}
 use Rattle.claims.specs.Queues.{bares, AbsentSeat}
 use Rattle.claims.proofs.Alike.{length_bares}
-use Rattle.seat.specs.declared.seats.Seat.{Seat}
-use Rattle.seat.specs.declared.Standing.{Standing}
-use Rattle.seat.specs.declared.Standing.TheVariants.{Free, Waiting, Ready, Running}
 use Rattle.manager.specs.declared.inner.Inner.{Inner}
 use Rattle.manager.specs.Lines.{occurrences}
-use Rattle.manager.specs.Model.{vacant, seat_at, entry_of, roll_of, ready_of, free_of}
-use Rattle.manager.specs.Sound.{is_free, is_ready, free_at, ready_at, Seated}
-use Rattle.manager.proofs.Occurs.{occurrences-++, occurrences_member, tally_same, fits_more, line_room}
+use Rattle.manager.specs.Model.{seat_at, entry_of, roll_of, ready_of, free_of}
+use Rattle.manager.specs.Sound.{free_at, ready_at, Seated}
+use Rattle.manager.proofs.Occurs.{occurrences-++, occurrences_absent, counted, tally_same, fits_more, line_room}
 use Rattle.manager.proofs.Rolls.{eqb_flip}
-use Rattle.manager.proofs.Seats.{seat_unlisted}
-
--- a test that counts holds
-counted : (b : Bool) → 1 ≤ tally b → b ≡ true
-counted true h = refl
-counted false h = absurd (omega arith)
-
--- a free seat is not ready
-pub free_unready : (st : Standing) → is_free st ≡ true → is_ready st ≡ false
-free_unready Free h = refl
-free_unready Waiting h = refl
-free_unready Ready h = absurd (false≢true h)
-free_unready (Running p) h = refl
+use Rattle.manager.proofs.Seats.{seat_unlisted, ready_low}
+use Rattle.manager.proofs.Standings.{free_not_ready}
 
 -- a seat that is not in the list is not on the roll that the list makes
 absent_map : (f : ℕ → Entry) → ((t : ℕ) → (f t).job.seat ≡ t) → (s : ℕ) (l : List ℕ) → member s l ≡ false → AbsentSeat s (bares (map f l))
@@ -45,28 +30,16 @@ absent_map f own s (x ∷ l) h =
     let parts = or_parts (eqb s x) (member s l) h in
     (ap (λ (t : ℕ). eqb t s) (own x) ∙ eqb_flip s x false parts.0, absent_map f own s l parts.1)
 
--- beyond the table no seat is ready
-past_ready : (i : Inner) → vec_len i.table.records ≡ 256 → (t : ℕ) → 256 ≤ t → ready_at i t ≡ false
-past_ready i full t le =
-    let long = i.table.records.ok.0 in
-    let past : length (vec_items i.table.records) ≤ t = omega arith in
-    ap (λ (r : Seat). is_ready r.standing) (get_or_past (vec_items i.table.records) t vacant past)
-
 -- each seat is listed at most once
 listed_once : (a : Acceptance) (t : ℕ) → occurrences t (listed a) ≤ 1
-listed_once a t = elim (cases_Bool (member t (listed a))) [ inl there ↦ once there | inr none ↦ omega (arith, gone none) ]
+listed_once a t = elim (cases_Bool (member t (listed a))) [ inl there ↦ once there | inr none ↦ omega (arith, occurrences_absent t (listed a) none) ]
   where
-    absent : (xs : List ℕ) → member t xs ≡ false → occurrences t xs ≡ 0
-    absent xs h = eqb-true (occurrences t xs) 0 (not-false (eqb (occurrences t xs) 0) (sym (occurrences_member t xs) ∙ h))
-
-    gone : member t (listed a) ≡ false → occurrences t (listed a) ≡ 0
-    gone h = absent (listed a) h
-
     once : member t (listed a) ≡ true → occurrences t (listed a) ≤ 1
     once h =
         let split = before_place a t h in
         let apart = listed_apart a t (below a (place_of a t)) split.0 split.1 in
-        rw split.1 (omega (arith, occurrences-++ t (below a (place_of a t)) (t ∷ split.0), absent (below a (place_of a t)) apart.0, absent split.0 apart.1, tally_same t))
+        rw split.1
+        (omega (arith, occurrences-++ t (below a (place_of a t)) (t ∷ split.0), occurrences_absent t (below a (place_of a t)) apart.0, occurrences_absent t split.0 apart.1, tally_same t))
 
 module _ (i : Inner) (seated : Seated i) (s : ℕ) (rest : List ℕ) (first : free_of i ≡ s ∷ rest) where
   -- the first of the free line is a seat of the table, and free
@@ -89,21 +62,18 @@ module _ (i : Inner) (seated : Seated i) (s : ℕ) (rest : List ℕ) (first : fr
   pub few_listed : length (listed i.order) < 256
   few_listed = fits_more (listed i.order) (listed_once i.order) past s first_low none
     where
-      absent : (t : ℕ) → member t (listed i.order) ≡ false → occurrences t (listed i.order) ≡ 0
-      absent t h = eqb-true (occurrences t (listed i.order)) 0 (not-false (eqb (occurrences t (listed i.order)) 0) (sym (occurrences_member t (listed i.order)) ∙ h))
-
       past : (t : ℕ) → 256 ≤ t → occurrences t (listed i.order) ≡ 0
-      past t le = elim (cases_Bool (member t (listed i.order))) [ inl there ↦ absurd (omega (arith, listed_low i.order t there)) | inr gone ↦ absent t gone ]
+      past t le = elim (cases_Bool (member t (listed i.order))) [ inl there ↦ absurd (omega (arith, listed_low i.order t there)) | inr gone ↦ occurrences_absent t (listed i.order) gone ]
 
       none : occurrences s (listed i.order) ≡ 0
-      none = absent s not_listed
+      none = occurrences_absent s (listed i.order) not_listed
 
   pub few_tasks : length (bares (roll_of i)) < 256
   few_tasks = omega (arith, length_bares (roll_of i), length-map (listed i.order) (λ (t : ℕ). entry_of (seat_at i t) t), few_listed)
 
   -- the ready line has room for it
   pub ready_room : length (ready_of i) < 256
-  ready_room = line_room (ready_of i) (ready_at i) seated.lined (past_ready i seated.full) s first_low (free_unready (seat_at i s).standing first_free)
+  ready_room = line_room (ready_of i) (ready_at i) seated.lined (ready_low i seated) s first_low (free_not_ready (seat_at i s).standing first_free)
 
   -- and no task has it
   pub seat_absent : AbsentSeat s (bares (roll_of i))

@@ -30,7 +30,7 @@ use Rattle.manager.specs.Sound.{is_free, is_waiting, is_ready, free_at, waiting_
 use Rattle.manager.proofs.Decided.{entry_at, idle_at, bares_split, tables_decide}
 use Rattle.manager.proofs.Occurs.{occurrences_push, tally_same, tally_other, line_room}
 use Rattle.manager.proofs.Rolls.{map_same, map_without}
-use Rattle.manager.proofs.Roused.{waiting_not_free}
+use Rattle.manager.proofs.Standings.{waiting_not_free}
 use Rattle.manager.proofs.Seats.{entries_own, seat_listed, seat_low, seat_set, seat_other}
 use Rattle.manager.proofs.Wakes.{member-++, member_splits, Decides}
 
@@ -131,7 +131,7 @@ module _ (i j : Inner) (s : ℕ) (w : Seat) (span : Span) (k : Sound i) (done : 
 
   tracked_was : Tracked i.tracker (bares (map (entry_at i) before) ++ (bare s (accesses_of (seat_at i s).task) ∷ bares (map (entry_at i) behind)))
   tracked_was =
-      subst (λ (v : Roll). Tracked i.tracker v) (ap (λ (l : List ℕ). bares (map (entry_at i) l)) listed_was ∙ bares_split i before behind s) k.seated.tracked
+      subst (λ (v : Roll). Tracked i.tracker v) (ap (λ (l : List ℕ). bares (map (entry_at i) l)) listed_was ∙ bares_split (entry_at i) before s behind) k.seated.tracked
 
   tracked_now : Tracked j.tracker (bares (map (entry_at i) (before ++ behind)))
   tracked_now =

@@ -1,3 +1,4 @@
+mod Standings
 mod Rolls
 mod Seats
 mod Wakes

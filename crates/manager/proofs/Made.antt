@@ -1,5 +1,6 @@
 -- The tables as they are made: no task, and every seat free. Assumes nothing.
 use Rattle.std.proofs.Common.{◌≡◌, ℕ, zero, suc, ◌+◌, ◌≤◌, Bool, true, false, not, ◌&&◌, eqb, ltb, [], ◌∷◌, ◌++◌, length, get_or, replicate, vec_len, sym, refl, ap, ◌∙◌, add-zero, arith}
+use mathlib.Core.Bool.{and-true}
 use Rattle.std.proofs.lemmas.Bool.{both_ways, le-ltb}
 use Rattle.std.proofs.lemmas.Bool.Decides.{nat_tests}
 use Rattle.roll.specs.Tables.{tally}
@@ -37,11 +38,6 @@ occurrences_numbers s (suc n) =
     let same : 0 + n ≡ n = omega arith in
     ap (occurrences s) (numbers_more 0 n ∙ ap (λ k. numbers 0 n ++ (k ∷ [])) same) ∙ occurrences_push s (numbers 0 n) n ∙ ap (λ k. k + tally (eqb n s)) (occurrences_numbers s n) ∙ grind (arith, nat_tests)
 
--- a test that holds adds nothing
-and_true : (a : Bool) {b : Bool} → b ≡ true → (a && b) ≡ a
-and_true true h = h
-and_true false h = refl
-
 -- a table of free seats has no other record
 pub all_alike : (n s : ℕ) (x : Seat) → x.standing ≡ Free → (get_or (replicate n x) s vacant).standing ≡ Free
 all_alike zero s x e = refl
@@ -65,7 +61,7 @@ module _ (i : Inner) (free : (s : ℕ) → (seat_at i s).standing ≡ Free) wher
       few_versions = versions;
       listed_seats = λ s. ap (member s) none ∙ ap not (sym (all_free s));
       within = λ s taken. absurd (both_ways (free_at i s) taken (all_free s));
-      freed = λ s. ap (occurrences s) line ∙ occurrences_numbers s i.seats ∙ ap tally (sym (and_true (ltb s i.seats) (all_free s)));
+      freed = λ s. ap (occurrences s) line ∙ occurrences_numbers s i.seats ∙ ap tally (sym (ap (λ (v : Bool). ltb s i.seats && v) (all_free s) ∙ and-true (ltb s i.seats)));
       lined = λ s. ap (occurrences s) ready ∙ ap tally (sym (none_ready s));
       tracked = rw none tracked;
     };

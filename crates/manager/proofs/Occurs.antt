@@ -1,7 +1,7 @@
 -- How often a number stands in a list, and how long a list is in which each number stands at most once. Assumes nothing.
 --
 --   occurrences-++           of two lists, one after the other
---   occurrences_member       a number that is in the list occurs in it
+--   occurrences_member, occurrences_absent   a number that is in the list occurs in it, and any other does not
 --   fits_line, fits_more     numbers below 256, each once: there are at most 256, and fewer if one is missing
 --   line_fits, line_room     the same for a list with each number that passes a test once
 use Rattle.std.proofs.Common.{◌≡◌, ℕ, zero, suc, ◌+◌, ◌<◌, ◌≤◌, Bool, true, false, cond, not, ◌||◌, eqb, List, [], ◌∷◌, ◌++◌, length, sym, refl, ap, ◌∙◌, inl, inr, arith}
@@ -23,6 +23,11 @@ occurrences_push s xs y = let sum = occurrences-++ s xs (y ∷ []) in omega arit
 pub tally_one : (b : Bool) → tally b ≤ 1
 tally_one true = omega arith
 tally_one false = omega arith
+
+-- a test that counts holds
+pub counted : (b : Bool) → 1 ≤ tally b → b ≡ true
+counted true h = refl
+counted false h = absurd (omega arith)
 
 -- a number itself, and another
 pub tally_same : (s : ℕ) → tally (eqb s s) ≡ 1
@@ -74,6 +79,9 @@ member_at n x xs rest false e =
 pub occurrences_member : (n : ℕ) (xs : List ℕ) → member n xs ≡ not (eqb (occurrences n xs) 0)
 occurrences_member n [] = refl
 occurrences_member n (x ∷ xs) = member_at n x xs (occurrences_member n xs) (eqb n x) refl
+
+pub occurrences_absent : (n : ℕ) (xs : List ℕ) → member n xs ≡ false → occurrences n xs ≡ 0
+occurrences_absent n xs h = eqb-true (occurrences n xs) 0 (not-false (eqb (occurrences n xs) 0) (sym (occurrences_member n xs) ∙ h))
 
 -- the first of a list occurs
 head_occurs : (x : ℕ) (xs : List ℕ) → 1 ≤ occurrences x (x ∷ xs)

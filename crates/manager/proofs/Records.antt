@@ -1,9 +1,8 @@
 -- The manager's fields with one seat's record replaced. Assumes nothing.
 --   with_record     the record of a seat replaced, and the ready line
 --   record_back     where the record is the one that was there, nothing has changed
---   seat_read       a record that was read is the one of the seat
 --   record_set, record_other, each_record    the records after it
-use Rattle.std.proofs.Common.{◌≡◌, ℕ, zero, suc, ◌<◌, Bool, List, [], ◌∷◌, length, get_or, set, vec_items, vec_len, Vec, sym, refl, ap, ◌∙◌, inl, inr, le_of_suc-le-suc, not-suc-le-zero, arith}
+use Rattle.std.proofs.Common.{◌≡◌, ℕ, ◌<◌, Bool, length, get_or, set, vec_items, vec_len, Vec, sym, refl, ap, ◌∙◌, inl, inr}
 use mathlib.Core.HLevel.{is_prop→PathP}
 use native.Mathlib.Nat.{ℕ_set}
 use lib.Seq.{set-get_or}
@@ -12,7 +11,7 @@ use Rattle.std.proofs.lemmas.Bool.{cases_eq}
 use Rattle.ring.specs.declared.Ring.{Ring}
 use Rattle.seat.specs.declared.seats.Seat.{Seat}
 use Rattle.manager.specs.declared.inner.Inner.{Inner}
-use Rattle.manager.specs.Model.{vacant, seat_at}
+use Rattle.manager.specs.Model.{seat_at}
 use Rattle.manager.proofs.Seats.{seat_set, seat_other}
 
 -- the fields with another record for a seat, and this ready line
@@ -52,18 +51,6 @@ record_back i s r e j = record {
   seats = i.seats;
   versions = i.versions;
 }
-
--- what stands in a list does not depend on what is read past its end
-get_d_any : {X : Type 0} (xs : List X) (s : ℕ) (d d' : X) → s < length xs → get_or xs s d ≡ get_or xs s d'
-get_d_any [] s d d' h = absurd (not-suc-le-zero h)
-get_d_any (x ∷ xs) zero d d' h = refl
-get_d_any (x ∷ xs) (suc s) d d' h = get_d_any xs s d d' (le_of_suc-le-suc h)
-
--- a record that was read out of the table is the seat's
-pub seat_read : (i : Inner) (s : ℕ) (r : Seat) → vec_len i.table.records ≡ 256 → s < 256 → r ≡ get_or (vec_items i.table.records) s r → r ≡ seat_at i s
-seat_read i s r full low e =
-    let long = i.table.records.ok.0 in
-    e ∙ get_d_any (vec_items i.table.records) s r vacant (omega arith)
 
 -- the records after one is replaced
 module _ (i : Inner) (line : Ring ℕ) (s : ℕ) (r : Seat) (full : vec_len i.table.records ≡ 256) (low : s < 256) where

@@ -1,6 +1,6 @@
 -- A roll made of a list of seats, each with its entry: one seat's entry found, changed and taken off. Assumes nothing.
 use Rattle.std.proofs.Common.{◌≡◌, ℕ, Bool, true, false, cond, ◌||◌, eqb, List, [], ◌∷◌, ◌++◌, map, Some, None, sym, refl, ap, ◌∙◌, ap₂}
-use Rattle.std.proofs.lemmas.Bool.{eqb-true, eqb-false, eq-eqb, ne_eqb, or_parts, or_left, or_right, false≢true, both_ways}
+use Rattle.std.proofs.lemmas.Bool.{eqb-true, eqb-false, eq-eqb, ne_eqb, or_parts, or_left, or_right, both_ways}
 use Rattle.acceptance.specs.Listed.{member, removed}
 use Rattle.roll.specs.Roll.{Standing, Entry, Roll, sits, stand, find, change, without}
 
@@ -29,7 +29,7 @@ module _ (f : ℕ → Entry) (own : (t : ℕ) → (f t).job.seat ≡ t) where
 
   -- a listed seat's entry is found
   pub find_there : (s : ℕ) (l : List ℕ) → member s l ≡ true → find s (map f l) ≡ Some (f s)
-  find_there s [] h = absurd (false≢true h)
+  find_there s [] h = absurd cc
   find_there s (x ∷ l) h = rw (sits_at s x) (found_by s x l (eqb s x) refl h (find_there s l))
 
   -- and of no other seat

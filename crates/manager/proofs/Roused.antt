@@ -2,9 +2,8 @@
 --   bares_tasks        records with the same tasks make the same roll, but for the standings
 --   became             one task became ready, or none did
 --   ready_room         the ready line has room for the seat of a task that waits
-use Rattle.std.proofs.Common.{◌≡◌, ℕ, ◌<◌, ◌≤◌, Bool, true, false, cond, not, ◌&&◌, eqb, ltb, List, [], ◌∷◌, ◌++◌, map, length, get_or, set, is_some, vec_items, vec_len, sym, refl, ap, ◌∙◌, subst, ap₂, inl, inr, append-nil, arith}
-use Rattle.std.proofs.lemmas.List.{get_or_read_under}
-use Rattle.std.proofs.lemmas.Bool.{eqb-true, eq-eqb, ne_eqb, both_ways, cases_Bool, cases_eq}
+use Rattle.std.proofs.Common.{◌≡◌, ℕ, ◌<◌, Bool, true, false, cond, not, ◌&&◌, eqb, ltb, List, [], ◌∷◌, ◌++◌, map, length, set, is_some, vec_items, vec_len, sym, refl, ap, ◌∙◌, subst, ap₂, inl, inr, append-nil, arith}
+use Rattle.std.proofs.lemmas.Bool.{eqb-true, eq-eqb, ne_eqb, cases_eq}
 use Rattle.acceptance.specs.declared.Acceptance.{Acceptance}
 use Rattle.acceptance.specs.Listed.{member, listed}
 use Rattle.claims.specs.Queues.{bare, bares}
@@ -24,31 +23,12 @@ use Rattle.tracker.specs.declared.tracker.Tracker.{Tracker}
 use Rattle.tracker.specs.Tracked.{Tracked}
 use Rattle.manager.specs.declared.inner.Inner.{Inner}
 use Rattle.manager.specs.Lines.{occurrences}
-use Rattle.manager.specs.Model.{vacant, seat_at, entry_of, roll_of, ready_of}
+use Rattle.manager.specs.Model.{seat_at, entry_of, roll_of, ready_of}
 use Rattle.manager.specs.Sound.{is_free, is_waiting, is_ready, free_at, waiting_at, ready_at, Seated}
 use Rattle.manager.specs.Finished.{BecameReady}
 use Rattle.manager.proofs.Occurs.{occurrences-++, tally_same, tally_other, line_room}
-use Rattle.manager.proofs.Seats.{seat_set, seat_other, seat_low}
-
--- a free seat is neither ready nor waiting
-pub free_not_ready : (st : Standing) → is_free st ≡ true → is_ready st ≡ false
-free_not_ready Free h = refl
-free_not_ready Waiting h = refl
-free_not_ready Ready h = absurd (both_ways false refl h)
-free_not_ready (Running p) h = refl
-
--- a waiting task is not ready, and its seat not free
-pub waiting_not_ready : (st : Standing) → is_waiting st ≡ true → is_ready st ≡ false
-waiting_not_ready Free h = refl
-waiting_not_ready Waiting h = refl
-waiting_not_ready Ready h = absurd (both_ways false refl h)
-waiting_not_ready (Running p) h = refl
-
-pub waiting_not_free : (st : Standing) → is_waiting st ≡ true → is_free st ≡ false
-waiting_not_free Free h = absurd (both_ways false refl h)
-waiting_not_free Waiting h = refl
-waiting_not_free Ready h = refl
-waiting_not_free (Running p) h = refl
+use Rattle.manager.proofs.Standings.{waiting_not_ready, waiting_not_free}
+use Rattle.manager.proofs.Seats.{seat_set, seat_other, ready_low}
 
 -- records with the same tasks make the same roll, but for names and standings
 bares_map : (f g : ℕ → Entry) (l : List ℕ) → ((t : ℕ) → bare (f t).job.seat (f t).job.accesses ≡ bare (g t).job.seat (g t).job.accesses) → bares (map f l) ≡ bares (map g l)
@@ -59,14 +39,6 @@ pub bares_tasks : (i j : Inner) → j.order ≡ i.order → ((t : ℕ) → (seat
 bares_tasks i j order task =
     ap (λ (a : Acceptance). bares (map (λ (t : ℕ). entry_of (seat_at j t) t) (listed a))) order
     ∙ bares_map (λ (t : ℕ). entry_of (seat_at j t) t) (λ (t : ℕ). entry_of (seat_at i t) t) (listed i.order) (λ t. ap (λ (x : Task). bare t (accesses_of x)) (task t))
-
--- no seat from 256 on is ready
-pub ready_low : (i : Inner) → Seated i → (t : ℕ) → 256 ≤ t → ready_at i t ≡ false
-ready_low i k t le =
-    elim (cases_Bool (free_at i t)) [
-      | inl free ↦ free_not_ready (seat_at i t).standing free
-      | inr taken ↦ absurd (omega (arith, seat_low i k t taken))
-    ]
 
 -- the ready line has room for the seat of a task that waits
 pub ready_room : (i : Inner) → Seated i → (s : ℕ) → s < 256 → waiting_at i s ≡ true → length (ready_of i) < 256
@@ -109,10 +81,6 @@ unblocked_standing xs Free = refl
 unblocked_standing xs Waiting = refl
 unblocked_standing xs Ready = refl
 unblocked_standing xs (Running p) = refl
-
--- the record that the table lends for a seat is the seat's
-pub lent_is : (i : Inner) (s : ℕ) (x : Seat) → vec_len i.table.records ≡ 256 → s < 256 → x ≡ get_or (vec_items i.table.records) s x → x ≡ seat_at i s
-lent_is i s x full low e = get_or_read_under (vec_items i.table.records) s 256 x vacant e low (sym full ∙ i.table.records.ok.0)
 
 -- at that event, by the record before it and the record after it
 module _ (i : Inner) (s : ℕ) (x w : Seat) (b : Bool) (same : x ≡ seat_at i s) (answer : b ≡ is_some (moved (accesses_of x.task) x.standing Unblocked)) where

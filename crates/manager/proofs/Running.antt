@@ -2,7 +2,7 @@
 --   step_told       by the seat's record before the step and after it: the answer, the state, and that the fields still agree
 --   step_none       where there is no such seat
 use Rattle.std.proofs.Common.{◌≡◌, ℕ, ◌≤◌, ◌<◌, true, false, ltb, List, [], ◌∷◌, get_or, vec_items, vec_len, is_ok, None, Ok, Err, Option, Result, sym, refl, ap, ◌∙◌, subst, ap₂, inl, inr, arith}
-use Rattle.std.proofs.lemmas.Bool.{cases_Bool, ltb-true, ltb-false, false≢true, true≢false}
+use Rattle.std.proofs.lemmas.Bool.{cases_Bool, ltb-true, ltb-false}
 use Rattle.fault.specs.declared.ManagerFault.{ManagerFault}
 use Rattle.task.specs.declared.Access.{Access}
 use Rattle.task.specs.Task.{accesses_of}
@@ -23,13 +23,14 @@ use Rattle.manager.specs.Sound.{Sound, is_free, is_waiting, is_ready, free_at, r
 use Rattle.manager.specs.declared.manager.steps.StepDone.{StepDone}
 use Rattle.manager.specs.Stepped.{numbers_of, stepped_answer, stepped_standing, stepped_values}
 use Rattle.manager.proofs.Moving.{moved_roll, moved_sound}
-use Rattle.manager.proofs.Records.{with_record, each_record, record_back, seat_read}
-use Rattle.manager.proofs.Seats.{roll_found, roll_none, seat_low}
+use Rattle.manager.proofs.Records.{with_record, each_record, record_back}
+use Rattle.manager.proofs.Seats.{roll_found, roll_none, seat_low, lent_is}
+use Rattle.manager.proofs.Standings.{only_free}
 
 -- a call that does not answer leaves the state
 refused_leaves : {V : Type 0} (b : State V) (o : Outcome V) → is_ok (step_answer o) ≡ false → left_by b o ≡ b
 refused_leaves b (refused fault) h = refl
-refused_leaves b (succeeded r) h = absurd (true≢false h)
+refused_leaves b (succeeded r) h = absurd cc
 
 -- what a step answers, as the two plain numbers that the call answers
 abbrev pub as_numbers : Result StepDone ManagerFault → Result (ℕ × ℕ) ManagerFault
@@ -55,27 +56,17 @@ pub record Left (st : OnRoll) : Type 0 where
   pub is : st ≡ running (next ∷ rest)
 
 step_left : (s : ℕ) (st : OnRoll) → is_ok (stepped_answer s st) ≡ true → Left st
-step_left s waiting h = absurd (false≢true h)
-step_left s ready h = absurd (false≢true h)
-step_left s (running []) h = absurd (false≢true h)
+step_left s waiting h = absurd cc
+step_left s ready h = absurd cc
+step_left s (running []) h = absurd cc
 step_left s (running (σ ∷ ss)) h = record { next = σ; rest = ss; is = refl }
 
 -- a seat with a running entry is neither free nor waiting nor ready
-not_running : {P : Type 0} (ss : List Step) (st : OnRoll) → st ≡ running ss → st ≡ waiting → P
-not_running ss st e f = let z : ◌≡◌ {A = ℕ} 0 1 = cc in absurd (omega arith)
-
 runs : (xs : List Access) (st : Standing) (ss : List Step) → standing_of xs st ≡ running ss → (is_free st ≡ false) × (is_waiting st ≡ false) × (is_ready st ≡ false)
-runs xs Free ss e = not_running ss waiting e refl
-runs xs Waiting ss e = not_running ss waiting e refl
-runs xs Ready ss e = let z : ◌≡◌ {A = ℕ} 0 1 = cc in absurd (omega arith)
+runs xs Free ss e = absurd cc
+runs xs Waiting ss e = absurd cc
+runs xs Ready ss e = absurd cc
 runs xs (Running p) ss e = (refl, refl, refl)
-
--- a free seat's entry answers as no entry does
-only_free : (xs : List Access) (st : Standing) → is_free st ≡ true → standing_of xs st ≡ waiting
-only_free xs Free h = refl
-only_free xs Waiting h = absurd (false≢true h)
-only_free xs Ready h = absurd (false≢true h)
-only_free xs (Running p) h = absurd (false≢true h)
 
 -- what a step of this seat, which answers this and leaves this record and these values, comes to: its answer, the state, and that the
 -- fields agree; at is the place of its record
@@ -104,7 +95,7 @@ module _ {V : Type 0} (i : Inner) (sound : Sound i) (s : ℕ) (r : Seat) (h : Fi
   step_answers =
       elim (cases_Bool (free_at i s)) [
         | inl free ↦
-            ap as_numbers (answer ∙ ap (stepped_answer s) (only_free entry.job.accesses (seat_at i s).standing free))
+            ap as_numbers (answer ∙ ap (λ (st : Standing). stepped_answer s (standing_of entry.job.accesses st)) (only_free (seat_at i s).standing free))
             ∙ sym (ap (λ (o : Option Entry). step_answer (stepped_at h (state_of i w) s o)) (roll_none i sound.seated s free))
         | inr taken ↦
             ap as_numbers answer ∙ sym (answer_by h (state_of i w) s entry.job entry.standing)
@@ -162,7 +153,7 @@ pub step_told : {V : Type 0} (i : Inner) → Sound i → (s at : ℕ) (old r : S
 step_told i sound s at old r h w w' res here inside lent answer standing task values kept host =
     let lent : old ≡ get_or (vec_items i.table.records) s old = rw here at lent in
     let low : s < 256 = omega (arith, ltb-true _ _ (sym inside), sound.seated.full) in
-    let read : old ≡ seat_at i s = seat_read i s old sound.seated.full low lent in
+    let read : old ≡ seat_at i s = lent_is i s old sound.seated.full low lent in
     let answer : res ≡ stepped_answer s (entry_of (seat_at i s) s).standing = answer ∙ ap (λ (x : Seat). stepped_answer s (entry_of x s).standing) read in
     let standing : (entry_of r s).standing ≡ stepped_standing (entry_of (seat_at i s) s).standing =
     standing ∙ ap (λ (x : Seat). stepped_standing (entry_of x s).standing) read in

@@ -1,8 +1,12 @@
 -- One seat's record, and its entry on the roll. Assumes nothing.
 --   roll_found, roll_none       what the roll has for a seat
+--   ready_low                   no seat beyond the table is ready
+--   lent_is                     a record that the table lends
 --   seat_set, seat_other        the records after one is replaced
 --   roll_changed, bares_same    the roll after one record's standing changed
-use Rattle.std.proofs.Common.{◌≡◌, ℕ, ◌<◌, true, false, not, List, map, length, set, Some, None, vec_items, vec_len, sym, refl, ap, ◌∙◌, arith, get_or-set_other, get_or-set_same}
+use Rattle.std.proofs.Common.{◌≡◌, ℕ, ◌<◌, ◌≤◌, inl, inr, true, false, not, List, map, length, get_or, set, Some, None, vec_items, vec_len, sym, refl, ap, ◌∙◌, arith, get_or-set_other, get_or-set_same}
+use Rattle.std.proofs.lemmas.Bool.{cases_Bool}
+use Rattle.std.proofs.lemmas.List.{get_or_read_under}
 use Rattle.acceptance.specs.declared.Acceptance.{Acceptance}
 use Rattle.acceptance.specs.Listed.{member, listed}
 use Rattle.acceptance.proofs.Laws.{before_place, listed_apart, listed_low}
@@ -12,8 +16,9 @@ use Rattle.roll.specs.Roll.{Standing, Entry, stand, find, change}
 use Rattle.seat.specs.declared.seats.Seat.{Seat}
 use Rattle.manager.specs.declared.inner.Inner.{Inner}
 use Rattle.manager.specs.Model.{vacant, seat_at, entry_of, roll_of}
-use Rattle.manager.specs.Sound.{Seated, free_at}
+use Rattle.manager.specs.Sound.{Seated, free_at, ready_at}
 use Rattle.manager.proofs.Rolls as rolls
+use Rattle.manager.proofs.Standings.{free_not_ready}
 
 -- each entry that a record makes has its own seat
 pub entries_own : (i : Inner) (t : ℕ) → (entry_of (seat_at i t) t).job.seat ≡ t
@@ -37,6 +42,18 @@ module _ (i : Inner) (seated : Seated i) where
 
   pub roll_none : (s : ℕ) → free_at i s ≡ true → find s (roll_of i) ≡ None
   roll_none s h = rolls.find_none (λ (t : ℕ). entry_of (seat_at i t) t) (entries_own i) s (listed i.order) (seat_unlisted s h)
+
+-- no seat from 256 on is ready
+pub ready_low : (i : Inner) → Seated i → (t : ℕ) → 256 ≤ t → ready_at i t ≡ false
+ready_low i k t le =
+    elim (cases_Bool (free_at i t)) [
+      | inl free ↦ free_not_ready (seat_at i t).standing free
+      | inr taken ↦ absurd (omega (arith, seat_low i k t taken))
+    ]
+
+-- the record that the table lends for a seat is the seat's
+pub lent_is : (i : Inner) (s : ℕ) (x : Seat) → vec_len i.table.records ≡ 256 → s < 256 → x ≡ get_or (vec_items i.table.records) s x → x ≡ seat_at i s
+lent_is i s x full low e = get_or_read_under (vec_items i.table.records) s 256 x vacant e low (sym full ∙ i.table.records.ok.0)
 
 -- the record that was replaced, and the others
 pub seat_set : (i i' : Inner) (s : ℕ) (r : Seat) → vec_items i'.table.records ≡ set (vec_items i.table.records) s r →

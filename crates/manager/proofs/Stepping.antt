@@ -1,6 +1,6 @@
 -- The next step of a seat's record, as its entry on the roll has it. Assumes nothing.
 --   bring_next, put_next    a record that has a bring or a put to do, before and after its step
-use Rattle.std.proofs.Common.{◌≡◌, ℕ, true, List, ◌∷◌, length, Some, None, sym, refl, ap, ◌∙◌, arith}
+use Rattle.std.proofs.Common.{◌≡◌, ℕ, true, List, ◌∷◌, length, Some, None, sym, refl, ap, ◌∙◌}
 use Rattle.task.specs.declared.Access.{Access}
 use Rattle.task.specs.Access.{readers}
 use Rattle.order.specs.Steps.{Step, bring, put}
@@ -22,10 +22,10 @@ pub record Next (xs : List Access) (st : Standing) (σ : Step) : Type 0 where
 
 -- two options or steps that differ are not equal
 no_step : {P : Type 0} (σ : NextStep) → Some σ ≡ None → P
-no_step σ h = let z : ◌≡◌ {A = ℕ} 0 1 = cc in absurd (omega arith)
+no_step σ h = absurd cc
 
 other_step : {P : Type 0} (a d p i e n : ℕ) → Some (BringNext a d p) ≡ Some (PutNext i e n) → P
-other_step a d p i e n h = let z : ◌≡◌ {A = ℕ} 0 1 = cc in absurd (omega arith)
+other_step a d p i e n h = absurd cc
 
 -- a record whose next step is a bring
 pub bring_next : (xs : List Access) (st : Standing) (a d p : ℕ) → sound_standing xs st ≡ true → Some (BringNext a d p) ≡ next_of xs st → Next xs st (bring (record { number = a; address = d }) p)

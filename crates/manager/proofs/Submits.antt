@@ -1,6 +1,5 @@
 -- What a submission comes to, by what each check answers. Assumes nothing.
 --   apart_from          a task without a repeated address has its addresses apart
---   check_refuses       the fault of the task itself
 --   seat_refuses        the fault of the tables
 --   seat_gives          no fault, and the first free seat
 use Rattle.std.proofs.Common.{◌≡◌, ℕ, zero, suc, ◌+◌, ◌<◌, ◌≤◌, Bool, true, false, cond, eqb, ltb, List, [], ◌∷◌, length, take, Some, None, Ok, Err, Option, refl, ap, ◌∙◌, subst, arith}
@@ -24,11 +23,11 @@ use Rattle.manager.specs.Entered.{table_fault, seat_unless}
 
 -- where no number passes the test, the first does not, and none of the others
 none_first : (p : ℕ → Bool) (i n : ℕ) (b : Bool) → cond b (Some i) (first_from p (suc i) n) ≡ None → b ≡ false
-none_first p i n true e = absurd (let z : ◌≡◌ {A = ℕ} 0 1 = cc in omega arith)
+none_first p i n true e = absurd cc
 none_first p i n false e = refl
 
 none_rest : (p : ℕ → Bool) (i n : ℕ) (b : Bool) → cond b (Some i) (first_from p (suc i) n) ≡ None → first_from p (suc i) n ≡ None
-none_rest p i n true e = absurd (let z : ◌≡◌ {A = ℕ} 0 1 = cc in omega arith)
+none_rest p i n true e = absurd cc
 none_rest p i n false e = e
 
 -- a test that holds nowhere among some numbers fails at each of them
@@ -53,12 +52,12 @@ apart_by (x ∷ xs) h = (
 -- no fault at an access: there is none, and no next fault
 fault_none : (o : Option ℕ) (f : ℕ → ManagerFault) (next : Option ManagerFault) → fault_at o f next ≡ None → (o ≡ None) × (next ≡ None)
 fault_none None f next e = (refl, e)
-fault_none (Some i) f next e = absurd (let z : ◌≡◌ {A = ℕ} 0 1 = cc in omega arith)
+fault_none (Some i) f next e = absurd cc
 
 -- a task without a fault of its own
 sound_task : (held : ℕ → Bool) (xs : List Access) (b : Bool) → ltb max_accesses (length xs) ≡ b →
     cond b (Some TooManyAccesses) (fault_at (repeated xs) RepeatedAddress (fault_at (not_held held xs) NotHeld None)) ≡ None → (length xs ≤ 15) × Apart xs
-sound_task held xs true q e = absurd (let z : ◌≡◌ {A = ℕ} 0 1 = cc in omega arith)
+sound_task held xs true q e = absurd cc
 sound_task held xs false q e =
     let none : repeated xs ≡ None = (fault_none (repeated xs) RepeatedAddress (fault_at (not_held held xs) NotHeld None) e).0 in
     (grind arith, apart_by xs (λ k lt. let z : 0 + k ≡ k = omega arith in subst (λ (n : ℕ). occurs (address_at xs n) (take n xs) ≡ false) z (none_at (λ i. occurs (address_at xs i) (take i xs)) 0 (length xs) none k lt)))
@@ -69,11 +68,7 @@ apart_from held xs e = sound_task held xs (ltb max_accesses (length xs)) refl e
 -- what the check of the task says
 pub unless_ok : (o : Option ManagerFault) (u : Unit {0}) → Ok u ≡ unless o → o ≡ None
 unless_ok None u e = refl
-unless_ok (Some f) u e = absurd (let z : ◌≡◌ {A = ℕ} 0 1 = cc in omega arith)
-
-pub unless_err : (o : Option ManagerFault) (f : ManagerFault) → Err f ≡ unless o → o ≡ Some f
-unless_err None f e = absurd (let z : ◌≡◌ {A = ℕ} 0 1 = cc in omega arith)
-unless_err (Some f') f e = cc
+unless_ok (Some f) u e = absurd cc
 
 -- what the tables refuse is a fault of the manager
 tables_fault : (b : Bool) (s : Option TableFault) → or_else (cond b (Some (Table NeverFits)) None) (by_tables s) ≡ by_tables (cond b (Some NeverFits) s)
@@ -85,11 +80,6 @@ module _ {V : Type 0} (b : State V) (name kind : ℕ) (xs : List Access) (z : Ta
   abbrev pub submission : Outcome V
   submission = submitted b name kind xs (submit_fault z held b.roll b.free_line xs) (give_seat b.free_line)
 
-  -- a fault of the task itself
-  pub check_refuses : (f : ManagerFault) → task_fault held xs ≡ Some f → submission ≡ refused f
-  check_refuses f e =
-      ap (λ (o : Option ManagerFault). submitted b name kind xs (or_else (or_else o (cond (never_fits z xs) (Some (Table NeverFits)) None)) (by_tables (stall z b.roll b.free_line xs))) (give_seat b.free_line)) e
-
   -- without one, the faults are those of the tables
   by_the_tables : task_fault held xs ≡ None → submission ≡ submitted b name kind xs (by_tables (table_fault z b.roll b.free_line xs)) (give_seat b.free_line)
   by_the_tables e =
@@ -99,7 +89,7 @@ module _ {V : Type 0} (b : State V) (name kind : ℕ) (xs : List Access) (z : Ta
   refuses_by : (o : Option TableFault) (free : List ℕ) (f : TableFault) → Err f ≡ seat_unless o free → submitted b name kind xs (by_tables o) (give_seat free) ≡ refused (Table f)
   refuses_by (Some f') free f e = cc
   refuses_by None [] f e = cc
-  refuses_by None (s ∷ free) f e = absurd (let z : ◌≡◌ {A = ℕ} 0 1 = cc in omega arith)
+  refuses_by None (s ∷ free) f e = absurd cc
 
   -- the tables refuse
   pub seat_refuses : task_fault held xs ≡ None → (f : TableFault) → Err f ≡ seat_unless (table_fault z b.roll b.free_line xs) b.free_line → submission ≡ refused (Table f)
@@ -107,8 +97,8 @@ module _ {V : Type 0} (b : State V) (name kind : ℕ) (xs : List Access) (z : Ta
 
   gives_by : (o : Option TableFault) (free : List ℕ) (s : ℕ) → Ok s ≡ seat_unless o free →
       (o ≡ None) × ((rest : List ℕ) × (free ≡ s ∷ rest) × (submitted b name kind xs (by_tables o) (give_seat free) ≡ succeeded (accepted b name kind xs s rest)))
-  gives_by (Some f) free s e = absurd (let z : ◌≡◌ {A = ℕ} 0 1 = cc in omega arith)
-  gives_by None [] s e = absurd (let z : ◌≡◌ {A = ℕ} 0 1 = cc in omega arith)
+  gives_by (Some f) free s e = absurd cc
+  gives_by None [] s e = absurd cc
   gives_by None (t ∷ free) s e = let same : t ≡ s = cc in (refl, (free, ap (λ (x : ℕ). x ∷ free) same, ap (λ (x : ℕ). succeeded (accepted b name kind xs x free)) same))
 
   -- the task gets the first free seat

@@ -11,11 +11,11 @@ use Rattle.task.specs.Task.{accesses_of}
 use Rattle.order.specs.Steps.{steps}
 use Rattle.roll.specs.Roll.{Roll, Standing as OnRoll, ready, running, Entry, find, change}
 use Rattle.roll.specs.Tables.{tally}
-use Rattle.roll.specs.Calls.{State, Outcome, succeeded, taken, took, begun, begun_at}
+use Rattle.roll.specs.Calls.{State, succeeded, taken, took, begun, begun_at}
 use Rattle.roll.specs.Built.{left_by, take_answer}
 use Rattle.ring.specs.declared.Ring.{Ring}
 use Rattle.ring.specs.Model.{contents_of}
-use Rattle.seat.specs.declared.Standing.TheVariants.{Free, Waiting, Ready, Running}
+use Rattle.seat.specs.declared.Standing.TheVariants.{Ready, Running}
 use Rattle.seat.specs.declared.Standing as seats
 use Rattle.seat.specs.declared.Event.TheVariants.{Taken}
 use Rattle.seat.specs.declared.seats.Seat.{Seat}
@@ -27,20 +27,10 @@ use Rattle.manager.specs.Lines.{occurrences}
 use Rattle.manager.specs.Model.{seat_at, entry_of, roll_of, ready_of, free_of, state_of}
 use Rattle.manager.specs.Sound.{Seated, Sound, is_free, is_waiting, is_ready, free_at, ready_at}
 use Rattle.manager.proofs.Moving.{moved_roll, moved_sound}
-use Rattle.manager.proofs.Records.{with_record, record_set, record_other, seat_read}
-use Rattle.manager.proofs.Seats.{roll_found, seat_low}
-
--- a test that counts is passed
-counted : (b : Bool) → 0 < tally b → b ≡ true
-counted true h = refl
-counted false h = absurd (omega arith)
-
--- only one standing is ready
-only_ready : (st : seats.Standing) → is_ready st ≡ true → st ≡ Ready
-only_ready Free h = let z : ◌≡◌ {A = ℕ} 0 1 = cc in absurd (omega arith)
-only_ready Waiting h = let z : ◌≡◌ {A = ℕ} 0 1 = cc in absurd (omega arith)
-only_ready Ready h = refl
-only_ready (Running p) h = let z : ◌≡◌ {A = ℕ} 0 1 = cc in absurd (omega arith)
+use Rattle.manager.proofs.Occurs.{counted}
+use Rattle.manager.proofs.Records.{with_record, record_set, record_other}
+use Rattle.manager.proofs.Seats.{roll_found, seat_low, lent_is}
+use Rattle.manager.proofs.Standings.{only_ready}
 
 module _ (i : Inner) (seated : Seated i) (s : ℕ) (rest : List ℕ) (first : ready_of i ≡ s ∷ rest) where
   -- how often a seat is in the line
@@ -106,7 +96,7 @@ module _ (i : Inner) (sound : Sound i) (line : Ring ℕ) (s : ℕ) (old new : Se
   low = seat_low i sound.seated s held
 
   read : old ≡ seat_at i s
-  read = seat_read i s old sound.seated.full low lent
+  read = lent_is i s old sound.seated.full low lent
 
   same_task : new.task ≡ (seat_at i s).task
   same_task = task ∙ ap (λ (r : Seat). r.task) read

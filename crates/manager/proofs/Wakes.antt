@@ -1,9 +1,9 @@
 -- Which tasks of a roll become ready, by a test for each seat, where the roll is made of a list of seats. Assumes nothing.
 --   member-++, member_splits a number in a list
---   kept                     the numbers of a list that pass a test
+--   filter_same, filter_none the numbers of a list that pass a test
 --   Decides                  a test says of each listed seat whether an earlier task blocks it
---   wake_map, woken_kept     the roll with the tasks ready that become so, and their seats
-use Rattle.std.proofs.Common.{◌≡◌, ℕ, suc, ◌≤◌, Bool, true, false, cond, not, ◌||◌, eqb, List, [], ◌∷◌, ◌++◌, map, length, sym, refl, ap, ◌∙◌, ap₂, arith}
+--   wake_map, woken_filter   the roll with the tasks ready that become so, and their seats
+use Rattle.std.proofs.Common.{◌≡◌, ℕ, Bool, true, false, cond, not, ◌||◌, eqb, List, [], ◌∷◌, ◌++◌, map, filter, sym, refl, ap, ◌∙◌, ap₂}
 use mathlib.Core.Bool.{or-false}
 use Rattle.std.proofs.lemmas.Bool.{eqb-true, eq-eqb, or_left, or_right, both_ways}
 use Rattle.task.specs.declared.Access.{Access}
@@ -29,40 +29,19 @@ pub member_splits : (t : ℕ) (l : List ℕ) → member t l ≡ true → Splits 
 member_splits t [] h = absurd (both_ways false refl h)
 member_splits t (x ∷ l) h = splits_at t x l (eqb t x) refl h (member_splits t l)
 
--- the numbers that pass a test
-abbrev pub kept : (ℕ → Bool) → List ℕ → List ℕ
-kept p [] = []
-kept p (t ∷ ts) = cond (p t) (t ∷ kept p ts) (kept p ts)
-
--- of two lists, one after the other
-pub kept-++ : (p : ℕ → Bool) (xs ys : List ℕ) → kept p (xs ++ ys) ≡ kept p xs ++ kept p ys
-kept-++ p [] ys = refl
-kept-++ p (x ∷ xs) ys =
-    elim (p x) as (λ v. cond v (x ∷ kept p (xs ++ ys)) (kept p (xs ++ ys)) ≡ cond v (x ∷ kept p xs) (kept p xs) ++ kept p ys) [
-      | true ↦ ap (λ (l : List ℕ). x ∷ l) (kept-++ p xs ys)
-      | false ↦ kept-++ p xs ys
-    ]
-
--- there are no more of them than numbers
-pub length_kept : (p : ℕ → Bool) (xs : List ℕ) → length (kept p xs) ≤ length xs
-length_kept p [] = omega arith
-length_kept p (x ∷ xs) =
-    let rest = length_kept p xs in
-    elim (p x) as (λ v. length (cond v (x ∷ kept p xs) (kept p xs)) ≤ suc (length xs)) [ true ↦ omega arith | false ↦ omega arith ]
-
 -- two tests that agree on the list
-pub kept_same : (p q : ℕ → Bool) (xs : List ℕ) → ((t : ℕ) → member t xs ≡ true → p t ≡ q t) → kept p xs ≡ kept q xs
-kept_same p q [] same = refl
-kept_same p q (x ∷ xs) same =
-    ap₂ (λ (b : Bool) (l : List ℕ). cond b (x ∷ l) l) (same x (or_left (eqb x x) (member x xs) (eq-eqb x x refl))) (kept_same p q xs (λ t h. same t (or_right (eqb t x) (member t xs) h)))
+pub filter_same : (p q : ℕ → Bool) (xs : List ℕ) → ((t : ℕ) → member t xs ≡ true → p t ≡ q t) → filter p xs ≡ filter q xs
+filter_same p q [] same = refl
+filter_same p q (x ∷ xs) same =
+    ap₂ (λ (b : Bool) (l : List ℕ). cond b (x ∷ l) l) (same x (or_left (eqb x x) (member x xs) (eq-eqb x x refl))) (filter_same p q xs (λ t h. same t (or_right (eqb t x) (member t xs) h)))
 
 -- where none passes, none is left
-kept_never : (xs : List ℕ) → kept (λ t. false) xs ≡ []
-kept_never [] = refl
-kept_never (x ∷ xs) = kept_never xs
+filter_never : (xs : List ℕ) → filter (λ t. false) xs ≡ []
+filter_never [] = refl
+filter_never (x ∷ xs) = filter_never xs
 
-pub kept_none : (p : ℕ → Bool) (xs : List ℕ) → ((t : ℕ) → member t xs ≡ true → p t ≡ false) → kept p xs ≡ []
-kept_none p xs none = kept_same p (λ t. false) xs none ∙ kept_never xs
+pub filter_none : (p : ℕ → Bool) (xs : List ℕ) → ((t : ℕ) → member t xs ≡ true → p t ≡ false) → filter p xs ≡ []
+filter_none p xs none = filter_same p (λ t. false) xs none ∙ filter_never xs
 
 -- does a task in this standing become ready, where nothing blocks it or something does?
 abbrev pub stirs : Bool → Standing → Bool
@@ -71,11 +50,11 @@ stirs idle ready = false
 stirs idle (running ss) = false
 
 -- its seat is the one that joins the ready line
-roused_kept : (idle : Bool) (st : Standing) (s : ℕ) (rest : List ℕ) → roused (not idle) st s ++ rest ≡ cond (stirs idle st) (s ∷ rest) rest
-roused_kept true waiting s rest = refl
-roused_kept false waiting s rest = refl
-roused_kept idle ready s rest = refl
-roused_kept idle (running ss) s rest = refl
+roused_filter : (idle : Bool) (st : Standing) (s : ℕ) (rest : List ℕ) → roused (not idle) st s ++ rest ≡ cond (stirs idle st) (s ∷ rest) rest
+roused_filter true waiting s rest = refl
+roused_filter false waiting s rest = refl
+roused_filter idle ready s rest = refl
+roused_filter idle (running ss) s rest = refl
 
 -- of three tests the first two change places
 or_turn : (a b c : Bool) → ((a || b) || c) ≡ (b || (a || c))
@@ -109,10 +88,10 @@ wake_map f idle earlier (x ∷ l) h =
     (wake_map f idle (f x ∷ earlier) l (decides_more f idle earlier x l h))
 
 -- and the seats of those tasks
-pub woken_kept : (f : ℕ → Entry) (idle : ℕ → Bool) (earlier : Roll) (l : List ℕ) → ((t : ℕ) → (f t).job.seat ≡ t) → Decides f idle earlier l →
-    woken earlier (map f l) ≡ kept (λ t. stirs (idle t) (f t).standing) l
-woken_kept f idle earlier [] own h = refl
-woken_kept f idle earlier (x ∷ l) own h =
+pub woken_filter : (f : ℕ → Entry) (idle : ℕ → Bool) (earlier : Roll) (l : List ℕ) → ((t : ℕ) → (f t).job.seat ≡ t) → Decides f idle earlier l →
+    woken earlier (map f l) ≡ filter (λ t. stirs (idle t) (f t).standing) l
+woken_filter f idle earlier [] own h = refl
+woken_filter f idle earlier (x ∷ l) own h =
     ap₂ (λ (b : Bool) (s : ℕ). roused b (f x).standing s ++ woken (f x ∷ earlier) (map f l)) (decides_first f idle earlier x l h) (own x)
-    ∙ roused_kept (idle x) (f x).standing x (woken (f x ∷ earlier) (map f l))
-    ∙ ap (λ (r : List ℕ). cond (stirs (idle x) (f x).standing) (x ∷ r) r) (woken_kept f idle (f x ∷ earlier) l own (decides_more f idle earlier x l h))
+    ∙ roused_filter (idle x) (f x).standing x (woken (f x ∷ earlier) (map f l))
+    ∙ ap (λ (r : List ℕ). cond (stirs (idle x) (f x).standing) (x ∷ r) r) (woken_filter f idle (f x ∷ earlier) l own (decides_more f idle earlier x l h))

@@ -40,9 +40,10 @@ impl Inner {
     {
         let _ = self.free.pop();
         let blocked = self.tracker.enter(seat, task.accesses());
-        if let Some(occupant) = self.table.find(seat as usize) {
-            let _ = occupant.occupy(task, blocked);
-        }
+        let Some(occupant) = self.table.find(usize::from(seat)) else {
+            unreachable!()
+        };
+        let _ = occupant.occupy(task, blocked);
         let _ = self.order.push(seat);
         if !blocked {
             let _ = self.ready.push(seat);

@@ -19,11 +19,11 @@ impl Inner {
         requires { Sound self.now }
         ensures { result ≡ may_finish seat (seat_at self.now seat).standing }
     {
-        if seat >= 256 {
+        let Ok(at) = u8::try_from(seat) else {
             return Err(ManagerFault::NotRunning { seat });
-        }
-        match self.table.records[seat as usize].standing() {
-            Standing::Running(Phase::Done) => Ok(seat as u8),
+        };
+        match self.table.records[usize::from(at)].standing() {
+            Standing::Running(Phase::Done) => Ok(at),
             Standing::Running(_) => Err(ManagerFault::StepsLeft { seat }),
             _ => Err(ManagerFault::NotRunning { seat }),
         }
@@ -39,12 +39,13 @@ impl Inner {
         ensures waking { Waking self.new result }
     {
         let mut span = Span::none();
-        let occupant = &self.table.records[seat as usize];
+        let occupant = &self.table.records[usize::from(seat)];
         self.tracker
             .leave(seat, occupant.task().accesses(), &self.order, &mut span);
-        if let Some(occupant) = self.table.find(seat as usize) {
-            let _ = occupant.on(Event::Finished);
-        }
+        let Some(occupant) = self.table.find(usize::from(seat)) else {
+            unreachable!()
+        };
+        let _ = occupant.on(Event::Finished);
         let _ = self.order.remove(seat);
         let _ = self.free.push(seat);
         span

@@ -23,11 +23,10 @@ impl Inner {
     {
         let mut count = 0u16;
         for place in span.first..span.end {
-            if let Some(seat) = self.order.at(place) {
-                if self.rouse(seat) {
-                    count += 1;
-                }
-            }
+            let Some(seat) = self.order.at(place) else {
+                continue;
+            };
+            count += u16::from(self.rouse(seat));
         }
         count
     }
@@ -41,14 +40,9 @@ impl Inner {
         if self.tracker.is_blocked(seat) {
             return false;
         }
-        match self.table.find(seat as usize) {
-            Some(occupant) => {
-                if !occupant.on(Event::Unblocked) {
-                    return false;
-                }
-            }
-            None => return false,
-        }
-        self.ready.push(seat)
+        let Some(occupant) = self.table.find(usize::from(seat)) else {
+            unreachable!()
+        };
+        occupant.on(Event::Unblocked) && self.ready.push(seat)
     }
 }
