@@ -1,5 +1,3 @@
-mod Beside
-mod Says
 mod Performed
 mod Follows
 mod Rest

@@ -1,2 +1,3 @@
 pub mod Told
 pub mod Obeys
+pub mod Text

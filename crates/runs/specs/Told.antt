@@ -4,8 +4,7 @@
 --   answer_of, told      what an answer of the code says, in the words of the roll
 --   answer_to            what the outcome of a call answers
 --   answers_to           what each call of a list answers, in turn
---   seated_by, ..        what the answers of the manager's own calls say
-use Rattle.std.specs.Prelude.{ℕ, cond, List, [], ◌∷◌, map, Ok, Err, Result, ◌==◌}
+use Rattle.std.specs.Prelude.{List, [], ◌∷◌, map, Ok, Err, Result}
 use Rattle.fault.specs.declared.ManagerFault.{ManagerFault}
 use Rattle.roll.specs.Calls as roll
 use Rattle.roll.specs.Calls.{Setting, State, submit, take, step, finish, seated, taken, brought_access, put_access, woke, Outcome, refused, succeeded, perform}
@@ -50,21 +49,3 @@ answer_to (succeeded r) = Ok r.answer
 abbrev pub answers_to : {V : Type 0} → Setting V → State V → List roll.Call → List (Result roll.Answer ManagerFault)
 answers_to m b [] = []
 answers_to m b (c ∷ cs) = answer_to (perform m b c) ∷ answers_to m (left_by b (perform m b c)) cs
-
--- what the manager's own calls answer says: submit a seat; take a seat, a kind and a name; step an access, with 0 for a bring; finish how
--- many tasks became ready
-abbrev pub seated_by : Result ℕ ManagerFault → Result roll.Answer ManagerFault
-seated_by (Ok s) = Ok (seated s)
-seated_by (Err fault) = Err fault
-
-abbrev pub taken_by : Result (ℕ × ℕ × ℕ) ManagerFault → Result roll.Answer ManagerFault
-taken_by (Ok t) = Ok (taken t.0 t.1 t.2)
-taken_by (Err fault) = Err fault
-
-abbrev pub stepped_by : Result (ℕ × ℕ) ManagerFault → Result roll.Answer ManagerFault
-stepped_by (Ok p) = Ok (cond (p.1 == 0) (brought_access p.0) (put_access p.0))
-stepped_by (Err fault) = Err fault
-
-abbrev pub woke_by : Result ℕ ManagerFault → Result roll.Answer ManagerFault
-woke_by (Ok n) = Ok (woke n)
-woke_by (Err fault) = Err fault

@@ -1,4 +1,8 @@
 // The calls of a manager as values, and what they answer.
+ghost use Rattle.std.specs.Prelude.{Some};
+ghost use Rattle.runs.specs.Text.{answer_text};
+
+use std::fmt;
 use task::Access;
 
 // A call of the manager, with what it is handed.
@@ -31,4 +35,21 @@ pub enum Answer {
     Put { access: u8 },
     // A finish: how many tasks became ready.
     Woke { count: u16 },
+}
+
+impl fmt::Display for Answer {
+    ghost output = { λ a. Some (answer_text a) };
+
+    fn fmt<W: fmt::Write>(&self, f: &mut fmt::Formatter<W>) -> fmt::Result {
+        match *self {
+            Answer::Seated { seat } => write!(f, "seat {seat}"),
+            Answer::Taken { seat, kind, name } => write!(
+                f,
+                "took seat {seat} kind {kind} name {name}"
+            ),
+            Answer::Brought { access } => write!(f, "brought {access}"),
+            Answer::Put { access } => write!(f, "put {access}"),
+            Answer::Woke { count } => write!(f, "woke {count}"),
+        }
+    }
 }

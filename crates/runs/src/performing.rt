@@ -4,52 +4,12 @@ ghost use Rattle.roll.specs.Calls.{perform as outcome};
 ghost use Rattle.roll.specs.Built.{left_by, state_after};
 ghost use Rattle.manager.specs.Model.{tables_of};
 ghost use Rattle.manager.specs.Answers.{state_with, setting_with};
-ghost use Rattle.runs.specs.Told.{call_of, calls_of, told, all_told, answer_to, answers_to, seated_by, taken_by, stepped_by, woke_by};
+ghost use Rattle.runs.specs.Told.{call_of, calls_of, told, all_told, answer_to, answers_to};
 
 use crate::calls::{Answer, Call};
 use fault::ManagerFault;
 use host::Host;
 use manager::Manager;
-
-// What submit answers, as the answer of a call.
-fn seated(answer: Result<u16, ManagerFault>) -> Result<Answer, ManagerFault>
-    ensures told { told result ≡ seated_by answer }
-    ensures ok { is_ok result ≡ is_ok answer }
-{
-    let seat = answer?;
-    Ok(Answer::Seated { seat })
-}
-
-// What take answers, as the answer of a call.
-fn taken(answer: Result<(u16, u32, u32), ManagerFault>) -> Result<Answer, ManagerFault>
-    ensures told { told result ≡ taken_by answer }
-    ensures ok { is_ok result ≡ is_ok answer }
-{
-    let (seat, kind, name) = answer?;
-    Ok(Answer::Taken { seat, kind, name })
-}
-
-// What step answers, as the answer of a call.
-fn stepped(answer: Result<(u8, u8), ManagerFault>) -> Result<Answer, ManagerFault>
-    ensures told { told result ≡ stepped_by answer }
-    ensures ok { is_ok result ≡ is_ok answer }
-{
-    let (access, put) = answer?;
-    if put == 0 {
-        Ok(Answer::Brought { access })
-    } else {
-        Ok(Answer::Put { access })
-    }
-}
-
-// What finish answers, as the answer of a call.
-fn woke(answer: Result<u16, ManagerFault>) -> Result<Answer, ManagerFault>
-    ensures told { told result ≡ woke_by answer }
-    ensures ok { is_ok result ≡ is_ok answer }
-{
-    let count = answer?;
-    Ok(Answer::Woke { count })
-}
 
 // Makes the call, whichever it is. A refusal changes nothing.
 pub fn perform<H: Host>(
@@ -69,10 +29,17 @@ pub fn perform<H: Host>(
             name,
             kind,
             accesses,
-        } => seated(manager.submit(host, *name, *kind, accesses)),
-        Call::Take => taken(manager.take()),
-        Call::Step { seat } => stepped(manager.step(host, *seat)),
-        Call::Finish { seat } => woke(manager.finish(*seat)),
+        } => manager
+            .submit(host, *name, *kind, accesses)
+            .map(|seat| Answer::Seated { seat }),
+        Call::Take => manager
+            .take()
+            .map(|(seat, kind, name)| Answer::Taken { seat, kind, name }),
+        Call::Step { seat } => manager.step(host, *seat).map(|step| match step {
+            (access, 0) => Answer::Brought { access },
+            (access, _) => Answer::Put { access },
+        }),
+        Call::Finish { seat } => manager.finish(*seat).map(|count| Answer::Woke { count }),
     }
 }
 
