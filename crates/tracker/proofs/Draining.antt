@@ -106,11 +106,8 @@ pub live_has : (w : AddressTable) (i n : ℕ) → i / 64 < n → one_if w i ≤ 
 live_has w i zero lt = absurd (not-suc-le-zero lt)
 live_has w i (suc n) lt = ⊎_elim
     (λ (e : n ≡ i / 64). let at : i % 64 + 64 * n ≡ i = omega arith in let x : one_if w (i % 64 + 64 * n) ≡ one_if w i = ap (one_if w) at in omega (arith, x))
-    (λ ne. let k = live_has w i n (less_than (i / 64) n lt ne) in omega (arith, k))
+    (λ ne. let k = live_has w i n (omega (arith, lt, ne)) in omega (arith, k))
     (cases_eq n (i / 64))
-  where
-    less_than : (a b : ℕ) → a < suc b → (b ≡ a → ⊥) → a < b
-    less_than a b l ne = ⊎_elim (λ (e : b ≡ a). absurd (ne e)) (λ ne'. omega (arith, l, ne')) (cases_eq b a)
 
 -- a holder leaves, all that may hold the address then do, and the set's count follows
 pub departs : (t t₁ t₂ t₃ : Tracker) (M : ℕ → State) (a i : ℕ) → i < 512 → i % 64 ≡ a % 64 → Found t.table a i → Table t.table M → Leaves (M a) t →

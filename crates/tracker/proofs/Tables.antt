@@ -78,13 +78,10 @@ module _ (w w' : AddressTable) (i : ℕ) (inside : i < 512) (others : (j : ℕ) 
       omega (arith, k, x, y))
       (λ (ne : n ≡ i / 64 → ⊥).
       let far : z + 64 * n ≡ i → ⊥ = λ g. ne (omega arith) in
-      let k = own_ways z n e (less_than (i / 64) n lt ne) in
+      let k = own_ways z n e (omega (arith, lt, ne)) in
       let x = same_way (z + 64 * n) far in
       omega (arith, k, x))
       (cases_eq n (i / 64))
-    where
-      less_than : (a b : ℕ) → a < suc b → (b ≡ a → ⊥) → a < b
-      less_than a b l ne = ⊎_elim (λ (e : b ≡ a). absurd (ne e)) (λ ne'. omega (arith, l, ne')) (cases_eq b a)
 
   -- a set's count that follows the way counts the live ways of the set again
   pub counts_on : ((z : ℕ) → z < 64 → live_at w z ≡ live_ways w z 8) →
@@ -205,11 +202,12 @@ room w M a t few none full =
     let e = all_live w (a % 64) 8 full in
     omega (arith, f, c, e)
 
+-- a test counts at most once
+pub tally_most : (b : Bool) → tally b ≤ 1
+tally_most true = omega arith
+tally_most false = omega arith
+
 -- of the first n ways of a set, at most n are live
 pub most_live : (w : AddressTable) (z n : ℕ) → live_ways w z n ≤ n
 most_live w z zero = omega arith
 most_live w z (suc n) = let k = most_live w z n in let e = tally_most (ltb 0 (lock_at w (z + 64 * n)).holders) in omega (arith, k, e)
-  where
-    tally_most : (b : Bool) → tally b ≤ 1
-    tally_most true = omega arith
-    tally_most false = omega arith

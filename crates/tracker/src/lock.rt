@@ -7,6 +7,7 @@ use claims::Claim;
 use ring::Ring;
 
 // How many hold the address, whether they write, and the claims that wait, first in first.
+// Kept: these are the fields of the state that the theorems speak of; as cases each step below takes a match, and a case more.
 #[derive(Clone, Copy)]
 pub struct Lock {
     holders: u16,
@@ -47,10 +48,7 @@ impl Lock {
     fn is_open(&self, writes: bool) -> bool
         ensures { result ≡ open_to (state_of self.now) writes }
     {
-        match self.waiting.first() {
-            None => self.admits(writes),
-            Some(_) => false,
-        }
+        self.waiting.first().is_none() && self.admits(writes)
     }
 
     // One more claim, which holds at once if it conflicts with no earlier one, and else waits. Does it hold?
@@ -81,30 +79,20 @@ impl Lock {
         ensures after { self.old.holders < 1000 → state_of self.new ≡ moves (state_of self.old) }
         ensures shorter { OnSome result (length (state_of self.new).waiting < length (state_of self.old).waiting) }
     {
-        match self.waiting.first() {
-            None => None,
-            Some(first) => {
-                if !self.admits(first.writes) {
-                    return None;
-                }
-                let _ = self.waiting.pop();
-                self.holders = self.holders.saturating_add(1);
-                self.writing = first.writes;
-                Some(first.seat)
-            }
+        let first = self.waiting.first()?;
+        if !self.admits(first.writes) {
+            return None;
         }
+        let _ = self.waiting.pop();
+        self.holders = self.holders.saturating_add(1);
+        self.writing = first.writes;
+        Some(first.seat)
     }
 
     // Does a version fall free when a holder leaves? It does if that is the last holder and no reader is the next.
     pub(crate) fn frees(&self) -> bool
         ensures { result ≡ (lone self.now.holders && not (reader_next (state_of self.now).waiting)) }
     {
-        if self.holders != 1 {
-            return false;
-        }
-        match self.waiting.first() {
-            None => true,
-            Some(first) => first.writes,
-        }
+        self.holders == 1 && self.waiting.first().is_none_or(|first| first.writes)
     }
 }
