@@ -7,7 +7,7 @@
 use Rattle.std.proofs.Common.{◌≡◌, ℕ, zero, suc, ◌+◌, ◌-◌, ◌%◌, ◌<◌, ◌≤◌, min, Bool, true, false, cond, not, ◌&&◌, ◌||◌, eqb, ltb, List, [], ◌∷◌, length, get_or, drop, is_some, Some, None, Option, sym, refl, ap, ◌∙◌, ap₂, ⊎_elim, arith}
 use Rattle.std.proofs.Math.Bool.{and-true}
 use Rattle.std.specs.Option.{option_map_or}
-use Rattle.std.proofs.lemmas.Bool.{cases_Bool, cases_eq, lt-ltb, le-ltb, ltb-false, cond_both, cond-true, cond-false, ne_eqb}
+use Rattle.std.proofs.lemmas.Bool.{cases_Bool, cases_eq, both_ways, lt-ltb, le-ltb, ltb-false, cond_both, cond-true, cond-false, ne_eqb}
 use Rattle.std.proofs.lemmas.List.{at_drop_more, at_drop_all}
 use Rattle.fault.specs.declared.TableFault.TheVariants.{TooFewVersions}
 use Rattle.task.specs.declared.Access.{Access}
@@ -17,6 +17,7 @@ use Rattle.admission.specs.Admission.{first_from}
 use Rattle.roll.specs.Roll.{Roll}
 use Rattle.roll.specs.Tables.{tally, live, needs, used, fresh, occupied, crowded, missing, full_set, stall}
 use Rattle.tracker.specs.Tracked.{sized}
+use Rattle.tracker.proofs.Tables.{tally_most}
 use Rattle.tracker.proofs.Room.{fresh_sized, occupied_sized}
 
 -- tests that agree hold first at the same number
@@ -40,15 +41,9 @@ first_some : (p : ℕ → Bool) (i n k : ℕ) → i ≤ k → k < i + n → p k 
 first_some p i zero k low high t = absurd (omega (arith, low, high))
 first_some p i (suc n) k low high t =
     either_some (p i) i (first_from p (suc i) n) (λ f. ⊎_elim
-    (λ (e : i ≡ k). absurd (both (p k) (sym (ap p e) ∙ f) t))
-    (λ (ne : i ≡ k → ⊥). first_some p (suc i) n k (above i k low ne) (omega arith) t)
+    (λ (e : i ≡ k). absurd (both_ways (p k) (sym (ap p e) ∙ f) t))
+    (λ (ne : i ≡ k → ⊥). first_some p (suc i) n k (omega (arith, low, ne)) (omega arith) t)
     (cases_eq i k))
-  where
-    both : (b : Bool) → b ≡ false → b ≡ true → ⊥
-    both b f t = let z : true ≡ false = sym t ∙ f in let n : ◌≡◌ {A = ℕ} 0 1 = cc in omega arith
-
-    above : (a b : ℕ) → a ≤ b → (a ≡ b → ⊥) → suc a ≤ b
-    above a b l ne = omega (arith, l, ne)
 
 -- no set is crowded if no count is above the ways
 pub crowded_none : (count : ℕ → ℕ) → ((z : ℕ) → z < 64 → count z ≤ 8) → crowded count ≡ None
@@ -115,11 +110,6 @@ crowded_adds f ns ns' s l full full' low at more was e =
 
     fewer : ltb 8 (f s + get_or ns' s 0) ≡ false → f s + get_or ns s 0 ≤ 8
     fewer miss = let b = ltb-false 8 (f s + get_or ns' s 0) miss in let m = more s in omega (arith, b, m)
-
--- a test counts at most once
-tally_most : (b : Bool) → tally b ≤ 1
-tally_most true = omega arith
-tally_most false = omega arith
 
 -- at most each access needs a version
 pub needs_most : (v : Roll) (xs : List Access) → needs v xs ≤ length xs

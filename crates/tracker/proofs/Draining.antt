@@ -51,7 +51,7 @@ pub record Draining (t t' : Tracker) (i : ℕ) : Type 0 where
   pub rest : ChangesOnlyWay t.table t'.table i
   pub versions : t'.used ≡ t.used
   pub keeps : settled (state_of (lock_at t'.table i)) ≡ settled (state_of (lock_at t.table i))
-  pub few : (lock_at t'.table i).holders + length (state_of (lock_at t'.table i)).waiting ≤ 512
+  pub few : (state_of (lock_at t'.table i)).holders + length (state_of (lock_at t'.table i)).waiting ≤ 512
   pub counts : (s : ℕ) → s < 256 → blocked_at t' s + claims s (state_of (lock_at t.table i)).waiting ≡ blocked_at t s + claims s (state_of (lock_at t'.table i)).waiting
   pub owed : (s : ℕ) → s < 256 → claims s (state_of (lock_at t'.table i)).waiting ≤ blocked_at t' s
 
@@ -62,14 +62,14 @@ draining_start t i r = record { tag = refl; rest = record { others = λ j ne. re
 -- one more becomes a holder, and the count of its seat falls
 pub draining_more : (t t' t₁ t'' : Tracker) (i : ℕ) (r : Option ℕ) (seat : ℕ) → Draining t t' i → Lowered t₁ t'' seat →
     r ≡ promotes (state_of (lock_at t'.table i)) → r ≡ Some seat → tag_at t₁.table i ≡ tag_at t'.table i →
-    ((lock_at t'.table i).holders < 1000 → state_of (lock_at t₁.table i) ≡ moves (state_of (lock_at t'.table i))) → ChangesOnlyWay t'.table t₁.table i →
+    ((state_of (lock_at t'.table i)).holders < 1000 → state_of (lock_at t₁.table i) ≡ moves (state_of (lock_at t'.table i))) → ChangesOnlyWay t'.table t₁.table i →
     t₁.used ≡ t'.used → vec_items t₁.blocked ≡ vec_items t'.blocked → Draining t t'' i
 draining_more t t' t₁ t'' i r seat d l answer e tag here rest used blocked =
     let st = state_of (lock_at t'.table i) in
     let m = some_moved st seat (sym answer ∙ e) in
     let f = d.few in
     let now : state_of (lock_at t''.table i) ≡ moves st = ap (λ (x : AddressTable). state_of (lock_at x i)) l.table ∙ here (omega (arith, f)) in
-    let h : (lock_at t''.table i).holders ≡ (moves st).holders = ap (λ (s : State). s.holders) now in
+    let h : (state_of (lock_at t''.table i)).holders ≡ (moves st).holders = ap (λ (s : State). s.holders) now in
     let n : length (state_of (lock_at t''.table i)).waiting ≡ length (moves st).waiting = ap (λ (s : State). length s.waiting) now in
     let c : (s : ℕ) → claims s (state_of (lock_at t''.table i)).waiting ≡ claims s (moves st).waiting = λ s. ap (λ (x : State). claims s x.waiting) now in
     let fell : (s : ℕ) → blocked_at t'' s ≡ blocked_at t' s - tally (eqb seat s) = λ s. l.counts s ∙ ap (λ bs. get_or bs s 0 - tally (eqb seat s)) blocked in
@@ -86,7 +86,7 @@ draining_more t t' t₁ t'' i r seat d l answer e tag here rest used blocked =
 -- nobody may become a holder any more
 pub draining_end : (t t' t₁ : Tracker) (i : ℕ) (r : Option ℕ) → Draining t t' i →
     r ≡ promotes (state_of (lock_at t'.table i)) → r ≡ None → tag_at t₁.table i ≡ tag_at t'.table i →
-    ((lock_at t'.table i).holders < 1000 → state_of (lock_at t₁.table i) ≡ moves (state_of (lock_at t'.table i))) → ChangesOnlyWay t'.table t₁.table i →
+    ((state_of (lock_at t'.table i)).holders < 1000 → state_of (lock_at t₁.table i) ≡ moves (state_of (lock_at t'.table i))) → ChangesOnlyWay t'.table t₁.table i →
     t₁.used ≡ t'.used → vec_items t₁.blocked ≡ vec_items t'.blocked → Drained t t₁ i
 draining_end t t' t₁ i r d answer e tag here rest used blocked =
     let st = state_of (lock_at t'.table i) in
@@ -106,11 +106,8 @@ pub live_has : (w : AddressTable) (i n : ℕ) → i / 64 < n → one_if w i ≤ 
 live_has w i zero lt = absurd (not-suc-le-zero lt)
 live_has w i (suc n) lt = ⊎_elim
     (λ (e : n ≡ i / 64). let at : i % 64 + 64 * n ≡ i = omega arith in let x : one_if w (i % 64 + 64 * n) ≡ one_if w i = ap (one_if w) at in omega (arith, x))
-    (λ ne. let k = live_has w i n (less_than (i / 64) n lt ne) in omega (arith, k))
+    (λ ne. let k = live_has w i n (omega (arith, lt, ne)) in omega (arith, k))
     (cases_eq n (i / 64))
-  where
-    less_than : (a b : ℕ) → a < suc b → (b ≡ a → ⊥) → a < b
-    less_than a b l ne = ⊎_elim (λ (e : b ≡ a). absurd (ne e)) (λ ne'. omega (arith, l, ne')) (cases_eq b a)
 
 -- a holder leaves, all that may hold the address then do, and the set's count follows
 pub departs : (t t₁ t₂ t₃ : Tracker) (M : ℕ → State) (a i : ℕ) → i < 512 → i % 64 ≡ a % 64 → Found t.table a i → Table t.table M → Leaves (M a) t →
@@ -118,7 +115,7 @@ pub departs : (t t₁ t₂ t₃ : Tracker) (M : ℕ → State) (a i : ℕ) → i
     vec_items t₁.blocked ≡ vec_items t.blocked → t₁.used ≡ t.used - freed (state_of (lock_at t.table i)) →
     (Ready t₁ i → Drained t₁ t₂ i) →
     vec_items t₃.table.slots ≡ vec_items t₂.table.slots →
-    ((z : ℕ) → live_at t₃.table z ≡ live_at t₂.table z - tally (eqb (i % 64) z && not (ltb 0 (lock_at t₂.table i).holders))) →
+    ((z : ℕ) → live_at t₃.table z ≡ live_at t₂.table z - tally (eqb (i % 64) z && not (ltb 0 (state_of (lock_at t₂.table i)).holders))) →
     vec_items t₃.blocked ≡ vec_items t₂.blocked → t₃.used ≡ t₂.used → Departed t t₃ M a
 departs t t₁ t₂ t₃ M a i lt z f table leaves tag₁ here₁ rest₁ blocked₁ used₁ drained slots₃ live₃ blocked₃ used₃ =
     let w = t.table in
@@ -126,7 +123,7 @@ departs t t₁ t₂ t₃ M a i lt z f table leaves tag₁ here₁ rest₁ blocke
     let at : state_of (lock_at w i) ≡ M a = (p M table).3 in
     let st₁ : state_of (lock_at t₁.table i) ≡ dropped (M a) = here₁ ∙ ap dropped at in
     let ready : Ready t₁ i = record {
-      few = (let h : (lock_at t₁.table i).holders ≡ (M a).holders - 1 = ap (λ (s : State). s.holders) st₁ in
+      few = (let h : (state_of (lock_at t₁.table i)).holders ≡ (M a).holders - 1 = ap (λ (s : State). s.holders) st₁ in
           let l : length (state_of (lock_at t₁.table i)).waiting ≡ length (M a).waiting = ap (λ (s : State). length s.waiting) st₁ in
           let k = leaves.few in omega (arith, h, l, k));
       owed = λ s low. (let c : claims s (state_of (lock_at t₁.table i)).waiting ≡ claims s (M a).waiting = ap (λ (x : State). claims s x.waiting) st₁ in
@@ -140,11 +137,11 @@ departs t t₁ t₂ t₃ M a i lt z f table leaves tag₁ here₁ rest₁ blocke
     let rest₂ = only_then w t₁.table t₂.table i rest₁ d.rest in
     let st₂ : state_of (lock_at t₂.table i) ≡ released (M a) = d.here ∙ end in
     let lives : (y : ℕ) → live_at t₂.table y ≡ live_at w y = λ y. ap (λ ns. get_or ns y 0) rest₂.live in
-    let h₂ : (lock_at t₂.table i).holders ≡ (released (M a)).holders = ap (λ (s : State). s.holders) st₂ in
-    let h₃ : (lock_at t₃.table i).holders ≡ (released (M a)).holders = ap (λ (s : State). s.holders) st₃ in
-    let was : ltb 0 (lock_at w i).holders ≡ true = lt-ltb 0 (lock_at w i).holders f.1 in
+    let h₂ : (state_of (lock_at t₂.table i)).holders ≡ (released (M a)).holders = ap (λ (s : State). s.holders) st₂ in
+    let h₃ : (state_of (lock_at t₃.table i)).holders ≡ (released (M a)).holders = ap (λ (s : State). s.holders) st₃ in
+    let was : ltb 0 (state_of (lock_at w i)).holders ≡ true = lt-ltb 0 (state_of (lock_at w i)).holders f.1 in
     let now : (y : ℕ) → live_at t₃.table y ≡ live_at w y - tally (eqb (i % 64) y && not (ltb 0 (released (M a)).holders)) =
-    λ y. live₃ y ∙ ap (λ n. n - tally (eqb (i % 64) y && not (ltb 0 (lock_at t₂.table i).holders))) (lives y) ∙ ap (λ n. live_at w y - tally (eqb (i % 64) y && not (ltb 0 n))) h₂ in
+    λ y. live₃ y ∙ ap (λ n. n - tally (eqb (i % 64) y && not (ltb 0 (state_of (lock_at t₂.table i)).holders))) (lives y) ∙ ap (λ n. live_at w y - tally (eqb (i % 64) y && not (ltb 0 n))) h₂ in
     let some : (y : ℕ) → y < 64 → i % 64 ≡ y → 1 ≤ live_at w y =
     λ y yl e. (let c = table.counted y yl in let k = live_has w i 8 (omega arith) in let o : one_if w i ≡ 1 = ap tally was in
     let g : live_ways w (i % 64) 8 ≡ live_ways w y 8 = ap (λ n. live_ways w n 8) e in omega (arith, c, k, o, g)) in
@@ -154,7 +151,7 @@ departs t t₁ t₂ t₃ M a i lt z f table leaves tag₁ here₁ rest₁ blocke
           st₃
           (λ j ne. slot₃ j ∙ rest₂.others j ne)
           (settle_gone (less (M a).holders) (M a).waiting)
-          (λ y yl. follow (live_at t₃.table y) (live_at w y) (eqb (i % 64) y) (ltb 0 (lock_at w i).holders) (ltb 0 (lock_at t₃.table i).holders) (ltb 0 (released (M a)).holders) was (ap (ltb 0) h₃) (λ e. some y yl (eqb-true (i % 64) y e)) (now y));
+          (λ y yl. follow (live_at t₃.table y) (live_at w y) (eqb (i % 64) y) (ltb 0 (state_of (lock_at w i)).holders) (ltb 0 (state_of (lock_at t₃.table i)).holders) (ltb 0 (released (M a)).holders) was (ap (ltb 0) h₃) (λ e. some y yl (eqb-true (i % 64) y e)) (now y));
       counts = λ s low.
           (let q = d.counts s low in
           let b₁ : blocked_at t₁ s ≡ blocked_at t s = ap (λ bs. get_or bs s 0) blocked₁ in

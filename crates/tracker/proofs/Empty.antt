@@ -13,7 +13,7 @@ use Rattle.tracker.proofs.Tracking.{made}
 -- a table of which no way is live
 pub empty_table : (w : AddressTable) → ((i : ℕ) → i < 512 → state_of (lock_at w i) ≡ vacant) → ((z : ℕ) → z < 64 → live_at w z ≡ 0) → Table w (map_of [])
 empty_table w none live =
-    let holders : (i : ℕ) → i < 512 → (lock_at w i).holders ≡ 0 = λ i lt. ap (λ (s : State). s.holders) (none i lt) in
+    let holders : (i : ℕ) → i < 512 → (state_of (lock_at w i)).holders ≡ 0 = λ i lt. ap (λ (s : State). s.holders) (none i lt) in
     let dead : (i : ℕ) → i < 512 → Live w i → ⊥ = λ i lt l. (let h = holders i lt in omega (arith, h, l)) in
     record {
       here = λ i lt l. absurd (dead i lt l);
@@ -25,11 +25,11 @@ empty_table w none live =
       counted = λ z zl. live z zl ∙ sym (no_live holders z zl 8 (omega arith));
     }
   where
-    no_live : ((i : ℕ) → i < 512 → (lock_at w i).holders ≡ 0) → (z : ℕ) → z < 64 → (n : ℕ) → n ≤ 8 → live_ways w z n ≡ 0
+    no_live : ((i : ℕ) → i < 512 → (state_of (lock_at w i)).holders ≡ 0) → (z : ℕ) → z < 64 → (n : ℕ) → n ≤ 8 → live_ways w z n ≡ 0
     no_live h z zl zero le = refl
     no_live h z zl (suc n) le =
         let k = no_live h z zl n (omega arith) in
-        let e : tally (ltb 0 (lock_at w (z + 64 * n)).holders) ≡ 0 = ap (λ m. tally (ltb 0 m)) (h (z + 64 * n) (omega arith)) in
+        let e : tally (ltb 0 (state_of (lock_at w (z + 64 * n))).holders) ≡ 0 = ap (λ m. tally (ltb 0 m)) (h (z + 64 * n) (omega arith)) in
         omega (arith, k, e)
 
 -- and tables of which no version is in use stand for the empty roll

@@ -36,15 +36,12 @@ occupied_sized n set e (x ∷ v) =
 pub first_none : (p : ℕ → Bool) (i n : ℕ) → first_from p i n ≡ None → (z : ℕ) → i ≤ z → z < i + n → p z ≡ false
 first_none p i zero h z lo hi = absurd (omega arith)
 first_none p i (suc n) h z lo hi = ⊎_elim
-    (λ (y : p i ≡ true). absurd (let e : ◌≡◌ {A = Option ℕ} (Some i) None = sym (cond-true (p i) (Some i) (first_from p (suc i) n) y) ∙ h in let q : ◌≡◌ {A = ℕ} 0 1 = cc in omega arith))
+    (λ (y : p i ≡ true). let e : ◌≡◌ {A = Option ℕ} (Some i) None = sym (cond-true (p i) (Some i) (first_from p (suc i) n) y) ∙ h in cc)
     (λ (no : p i ≡ false). ⊎_elim
     (λ (e : z ≡ i). ap p e ∙ no)
-    (λ ne. first_none p (suc i) n (sym (cond-false (p i) (Some i) (first_from p (suc i) n) no) ∙ h) z (above i z lo ne) (omega arith))
+    (λ ne. first_none p (suc i) n (sym (cond-false (p i) (Some i) (first_from p (suc i) n) no) ∙ h) z (omega (arith, lo, ne)) (omega arith))
     (cases_eq z i))
     (cases_Bool (p i))
-  where
-    above : (i z : ℕ) → i ≤ z → (z ≡ i → ⊥) → suc i ≤ z
-    above i z l ne = ⊎_elim (λ (e : z ≡ i). absurd (ne e)) (λ k. omega (arith, l, k)) (cases_eq z i)
 
 -- a set that is not crowded
 pub not_crowded : (count : ℕ → ℕ) → crowded count ≡ None → (z : ℕ) → z < 64 → count z ≤ 8
@@ -57,12 +54,12 @@ no_stall n v xs h = by (ltb 0 (missing (sized 0 n) v xs)) refl h
   where
     none_full : (o : Option ℕ) → full_set o ≡ None → o ≡ None
     none_full None e = refl
-    none_full (Some z) e = absurd (let q : ◌≡◌ {A = ℕ} 0 1 = cc in omega arith)
+    none_full (Some z) e = cc
 
     by : (b : Bool) → ltb 0 (missing (sized 0 n) v xs) ≡ b →
         cond b (Some (TooFewVersions (missing (sized 0 n) v xs))) (full_set (crowded (λ set. occupied (sized 0 n) set [] v + fresh (sized 0 n) v set xs))) ≡ None →
         (needs v xs ≤ n - used [] v) × ((z : ℕ) → z < 64 → occupied (sized 0 0) z [] v + fresh (sized 0 0) v z xs ≤ 8)
-    by true e k = absurd (let q : ◌≡◌ {A = ℕ} 0 1 = cc in omega arith)
+    by true e k = absurd cc
     by false e k = (
       let m = ltb-false 0 (needs v xs - (n - used [] v)) e in omega (arith, m),
       λ z zl. let c = not_crowded (λ set. occupied (sized 0 n) set [] v + fresh (sized 0 n) v set xs) (none_full (crowded (λ set. occupied (sized 0 n) set [] v + fresh (sized 0 n) v set xs)) k) z zl in

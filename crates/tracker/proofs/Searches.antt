@@ -2,6 +2,7 @@
 use Rattle.std.proofs.Common.{◌≡◌, ℕ, ◌+◌, ◌*◌, ◌%◌, ◌<◌, List, length, get_or, map, Some, None, Option, MatchOption, sym, ap, ◌∙◌, subst, arith}
 use Rattle.std.specs.List.{range_with_len, HoldsAt, AllWithin}
 use Rattle.std.proofs.lemmas.List.FromFn.{get_or-map-range_with_len}
+use Rattle.tracker.specs.State.{state_of}
 use Rattle.tracker.specs.Table.{Absent, Found, Full, Free, Placed, lock_at}
 use Rattle.tracker.specs.declared.ways.AddressTable.{AddressTable}
 use Rattle.tracker.specs.declared.ways.Way.{Way}
@@ -34,7 +35,7 @@ first_way Yes No a s (Some w) e some =
 
 -- a way that is not live, with what its type says of it
 pub free_way : (w : AddressTable) (a : ℕ) (r : Option Way) →
-    MatchOption r (Full w a) (λ x. (x.number % 64 ≡ a % 64) × ((lock_at w x.number).holders ≡ 0)) → MatchOption r (Full w a) (λ x. Free w a x.number)
+    MatchOption r (Full w a) (λ x. (x.number % 64 ≡ a % 64) × ((state_of (lock_at w x.number)).holders ≡ 0)) → MatchOption r (Full w a) (λ x. Free w a x.number)
 free_way w a None f = f
 free_way w a (Some x) f = (x.low, f.0, f.1)
 

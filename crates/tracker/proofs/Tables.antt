@@ -46,17 +46,17 @@ pub all_live : (w : AddressTable) (z n : ℕ) → ((k : ℕ) → k < n → Live 
 all_live w z zero h = refl
 all_live w z (suc n) h =
     let k = all_live w z n (λ k lt. h k (omega arith)) in
-    let e : tally (ltb 0 (lock_at w (z + 64 * n)).holders) ≡ 1 = ap tally (lt-ltb 0 (lock_at w (z + 64 * n)).holders (h n (omega arith))) in
+    let e : tally (ltb 0 (state_of (lock_at w (z + 64 * n))).holders) ≡ 1 = ap tally (lt-ltb 0 (state_of (lock_at w (z + 64 * n))).holders (h n (omega arith))) in
     omega (arith, k, e)
 
 -- 1 if a way is live
 abbrev pub one_if : AddressTable → ℕ → ℕ
-one_if w i = tally (ltb 0 (lock_at w i).holders)
+one_if w i = tally (ltb 0 (state_of (lock_at w i)).holders)
 
 -- two tables that are the same but at way i
 module _ (w w' : AddressTable) (i : ℕ) (inside : i < 512) (others : (j : ℕ) → (j ≡ i → ⊥) → lock_at w' j ≡ lock_at w j) where
   same_way : (j : ℕ) → (j ≡ i → ⊥) → one_if w' j ≡ one_if w j
-  same_way j ne = ap (λ (l : Lock). tally (ltb 0 l.holders)) (others j ne)
+  same_way j ne = ap (λ (l : Lock). tally (ltb 0 (state_of l).holders)) (others j ne)
 
   -- where the way is not among the first n of a set, as many of them are live
   same_ways : (z n : ℕ) → ((k : ℕ) → k < n → z + 64 * k ≡ i → ⊥) → live_ways w' z n ≡ live_ways w z n
@@ -78,27 +78,24 @@ module _ (w w' : AddressTable) (i : ℕ) (inside : i < 512) (others : (j : ℕ) 
       omega (arith, k, x, y))
       (λ (ne : n ≡ i / 64 → ⊥).
       let far : z + 64 * n ≡ i → ⊥ = λ g. ne (omega arith) in
-      let k = own_ways z n e (less_than (i / 64) n lt ne) in
+      let k = own_ways z n e (omega (arith, lt, ne)) in
       let x = same_way (z + 64 * n) far in
       omega (arith, k, x))
       (cases_eq n (i / 64))
-    where
-      less_than : (a b : ℕ) → a < suc b → (b ≡ a → ⊥) → a < b
-      less_than a b l ne = ⊎_elim (λ (e : b ≡ a). absurd (ne e)) (λ ne'. omega (arith, l, ne')) (cases_eq b a)
 
   -- a set's count that follows the way counts the live ways of the set again
   pub counts_on : ((z : ℕ) → z < 64 → live_at w z ≡ live_ways w z 8) →
-      ((z : ℕ) → z < 64 → live_at w' z + tally (eqb (i % 64) z && ltb 0 (lock_at w i).holders) ≡ live_at w z + tally (eqb (i % 64) z && ltb 0 (lock_at w' i).holders)) →
+      ((z : ℕ) → z < 64 → live_at w' z + tally (eqb (i % 64) z && ltb 0 (state_of (lock_at w i)).holders) ≡ live_at w z + tally (eqb (i % 64) z && ltb 0 (state_of (lock_at w' i)).holders)) →
       (z : ℕ) → z < 64 → live_at w' z ≡ live_ways w' z 8
   counts_on was follow z lt = ⊎_elim
       (λ (e : i % 64 ≡ z).
       let o = own_ways z 8 (sym e) (omega arith) in
-      let f : live_at w' z + one_if w i ≡ live_at w z + one_if w' i = subst (λ (b : Bool). live_at w' z + tally (b && ltb 0 (lock_at w i).holders) ≡ live_at w z + tally (b && ltb 0 (lock_at w' i).holders)) (eq-eqb (i % 64) z e) (follow z lt) in
+      let f : live_at w' z + one_if w i ≡ live_at w z + one_if w' i = subst (λ (b : Bool). live_at w' z + tally (b && ltb 0 (state_of (lock_at w i)).holders) ≡ live_at w z + tally (b && ltb 0 (state_of (lock_at w' i)).holders)) (eq-eqb (i % 64) z e) (follow z lt) in
       let c = was z lt in
       omega (arith, o, f, c))
       (λ (ne : i % 64 ≡ z → ⊥).
       let s = same_ways z 8 (λ k kl g. ne (omega arith)) in
-      let f : live_at w' z + 0 ≡ live_at w z + 0 = subst (λ (b : Bool). live_at w' z + tally (b && ltb 0 (lock_at w i).holders) ≡ live_at w z + tally (b && ltb 0 (lock_at w' i).holders)) (ne_eqb (i % 64) z ne) (follow z lt) in
+      let f : live_at w' z + 0 ≡ live_at w z + 0 = subst (λ (b : Bool). live_at w' z + tally (b && ltb 0 (state_of (lock_at w i)).holders) ≡ live_at w z + tally (b && ltb 0 (state_of (lock_at w' i)).holders)) (ne_eqb (i % 64) z ne) (follow z lt) in
       let c = was z lt in
       omega (arith, s, f, c))
       (cases_eq (i % 64) z)
@@ -107,13 +104,13 @@ module _ (w w' : AddressTable) (i : ℕ) (inside : i < 512) (others : (j : ℕ) 
 pub changed : (w w' : AddressTable) (M : ℕ → State) (a i : ℕ) (st : State) → i < 512 → Table w M → Placed w a i →
     tag_at w' i ≡ a → state_of (lock_at w' i) ≡ st → ((j : ℕ) → (j ≡ i → ⊥) → slot_at w' j ≡ slot_at w j) →
     (st.holders ≡ 0 → st ≡ vacant) →
-    ((z : ℕ) → z < 64 → live_at w' z + tally (eqb (i % 64) z && ltb 0 (lock_at w i).holders) ≡ live_at w z + tally (eqb (i % 64) z && ltb 0 (lock_at w' i).holders)) →
+    ((z : ℕ) → z < 64 → live_at w' z + tally (eqb (i % 64) z && ltb 0 (state_of (lock_at w i)).holders) ≡ live_at w z + tally (eqb (i % 64) z && ltb 0 (state_of (lock_at w' i)).holders)) →
     Table w' (update M a st)
 changed w w' M a i st lt t placed ti gi others gone follow =
     let to : (j : ℕ) → (j ≡ i → ⊥) → tag_at w' j ≡ tag_at w j = λ j ne. ap (λ (s : Slot). s.address) (others j ne) in
     let go : (j : ℕ) → (j ≡ i → ⊥) → lock_at w' j ≡ lock_at w j = λ j ne. ap (λ (s : Slot). s.lock) (others j ne) in
     let p = placed M t in
-    let back : (j : ℕ) → (j ≡ i → ⊥) → Live w' j → Live w j = λ j ne l. subst (λ (g : Lock). 0 < g.holders) (go j ne) l in
+    let back : (j : ℕ) → (j ≡ i → ⊥) → Live w' j → Live w j = λ j ne l. subst (λ (g : Lock). 0 < (state_of g).holders) (go j ne) l in
     let far : (j : ℕ) → j < 512 → (j ≡ i → ⊥) → Live w j → tag_at w j ≡ a → ⊥ = λ j jl ne l e. ne (p.2 j jl (e, l)) in
     record {
       here = λ j jl l. ⊎_elim
@@ -124,7 +121,7 @@ changed w w' M a i st lt t placed ti gi others gone follow =
           (λ (e : b ≡ a). let s : 0 < st.holders = subst (λ (x : State). 0 < x.holders) (update_same M a st b e) h in none i lt (ti ∙ sym e, subst (λ (x : State). 0 < x.holders) (sym gi) s))
           (λ ne. t.there b (subst (λ (y : State). 0 < y.holders) (update_other M a st b ne) h) (λ j jl f.
           let nj : j ≡ i → ⊥ = λ e. ne (sym f.0 ∙ ap (tag_at w) e ∙ p.1 (subst (λ (k : ℕ). Live w k) e f.1)) in
-          none j jl (to j nj ∙ f.0, subst (λ (g : Lock). 0 < g.holders) (sym (go j nj)) f.1)))
+          none j jl (to j nj ∙ f.0, subst (λ (g : Lock). 0 < (state_of g).holders) (sym (go j nj)) f.1)))
           (cases_eq b a);
       apart = λ j k jl kl lj lk e. ⊎_elim
           (λ (ej : j ≡ i). ⊎_elim
@@ -141,8 +138,8 @@ changed w w' M a i st lt t placed ti gi others gone follow =
           (λ ne. ap (λ n. n % 64) (to j ne) ∙ t.home j jl (back j ne l))
           (cases_eq j i);
       idle = λ j jl z. ⊎_elim
-          (λ (e : j ≡ i). ap (λ k. state_of (lock_at w' k)) e ∙ gi ∙ gone (ap (λ (x : State). x.holders) (sym gi) ∙ ap (λ k. (lock_at w' k).holders) (sym e) ∙ z))
-          (λ ne. ap state_of (go j ne) ∙ t.idle j jl (ap (λ (g : Lock). g.holders) (sym (go j ne)) ∙ z))
+          (λ (e : j ≡ i). ap (λ k. state_of (lock_at w' k)) e ∙ gi ∙ gone (ap (λ (x : State). x.holders) (sym gi) ∙ ap (λ k. (state_of (lock_at w' k)).holders) (sym e) ∙ z))
+          (λ ne. ap state_of (go j ne) ∙ t.idle j jl (ap (λ (g : Lock). (state_of g).holders) (sym (go j ne)) ∙ z))
           (cases_eq j i);
       absent = λ b z. ⊎_elim
           (λ (e : b ≡ a). update_same M a st b e ∙ gone (ap (λ (x : State). x.holders) (sym (update_same M a st b e)) ∙ z))
@@ -171,25 +168,25 @@ settle_gone (suc n) (c ∷ q) z = absurd (let h = settle_holds (suc n) false (c 
 pub joins : (w w' : AddressTable) (M : ℕ → State) (a i : ℕ) (c : Claim) (r : Claimed) → i < 512 → Table w M → Placed w a i →
     (M a).holders + length (M a).waiting < 256 →
     tag_at w' i ≡ a →
-    ((lock_at w i).holders < 1000 → length (state_of (lock_at w i)).waiting < 256 → state_of (lock_at w' i) ≡ joined_by (state_of (lock_at w i)) c) →
+    ((state_of (lock_at w i)).holders < 1000 → length (state_of (lock_at w i)).waiting < 256 → state_of (lock_at w' i) ≡ joined_by (state_of (lock_at w i)) c) →
     ((j : ℕ) → (j ≡ i → ⊥) → slot_at w' j ≡ slot_at w j) →
-    ((z : ℕ) → z < 64 → live_at w' z ≡ live_at w z + tally (eqb (i % 64) z && not (ltb 0 (lock_at w i).holders))) →
-    r.fresh ≡ not (ltb 0 (lock_at w i).holders) → r.holds ≡ open_to (state_of (lock_at w i)) c.writes →
+    ((z : ℕ) → z < 64 → live_at w' z ≡ live_at w z + tally (eqb (i % 64) z && not (ltb 0 (state_of (lock_at w i)).holders))) →
+    r.fresh ≡ not (ltb 0 (state_of (lock_at w i)).holders) → r.holds ≡ open_to (state_of (lock_at w i)) c.writes →
     Joined w w' M a c r
 joins w w' M a i c r lt t p size tag here others live fresh holds =
     let q = p M t in
     let at : state_of (lock_at w i) ≡ M a = q.3 in
-    let h : (lock_at w i).holders ≡ (M a).holders = ap (λ (s : State). s.holders) at in
+    let h : (state_of (lock_at w i)).holders ≡ (M a).holders = ap (λ (s : State). s.holders) at in
     let l : length (state_of (lock_at w i)).waiting ≡ length (M a).waiting = ap (λ (s : State). length s.waiting) at in
     let now : state_of (lock_at w' i) ≡ joined_by (M a) c = here (omega (arith, h, size)) (omega (arith, l, size)) ∙ ap (λ (s : State). joined_by s c) at in
     let alive : 0 < (joined_by (M a) c).holders = joined_live (M a) c (t.absent a) in
-    let up : ltb 0 (lock_at w' i).holders ≡ true = lt-ltb 0 (lock_at w' i).holders (subst (λ (s : State). 0 < s.holders) (sym now) alive) in
+    let up : ltb 0 (state_of (lock_at w' i)).holders ≡ true = lt-ltb 0 (state_of (lock_at w' i)).holders (subst (λ (s : State). 0 < s.holders) (sym now) alive) in
     record {
       fresh = fresh ∙ ap (λ n. not (ltb 0 n)) h;
       holds = holds ∙ ap (λ (s : State). open_to s c.writes) at;
       table = changed w w' M a i (joined_by (M a) c) lt t p tag now others (λ z. absurd (omega (arith, alive, z)))
-          (λ z zl. follow (live_at w' z) (live_at w z) (eqb (i % 64) z) (ltb 0 (lock_at w i).holders) (ltb 0 (lock_at w' i).holders) up (live z zl));
-      live = λ z zl. live z zl ∙ ap (λ (k : ℕ). live_at w z + tally (eqb k z && not (ltb 0 (lock_at w i).holders))) q.0 ∙ ap (λ (n : ℕ). live_at w z + tally (eqb (a % 64) z && not (ltb 0 n))) h;
+          (λ z zl. follow (live_at w' z) (live_at w z) (eqb (i % 64) z) (ltb 0 (state_of (lock_at w i)).holders) (ltb 0 (state_of (lock_at w' i)).holders) up (live z zl));
+      live = λ z zl. live z zl ∙ ap (λ (k : ℕ). live_at w z + tally (eqb k z && not (ltb 0 (state_of (lock_at w i)).holders))) q.0 ∙ ap (λ (n : ℕ). live_at w z + tally (eqb (a % 64) z && not (ltb 0 n))) h;
     }
   where
     follow : (n' n : ℕ) (b l l' : Bool) → l' ≡ true → n' ≡ n + tally (b && not l) → n' + tally (b && l) ≡ n + tally (b && l')
@@ -205,11 +202,12 @@ room w M a t few none full =
     let e = all_live w (a % 64) 8 full in
     omega (arith, f, c, e)
 
+-- a test counts at most once
+pub tally_most : (b : Bool) → tally b ≤ 1
+tally_most true = omega arith
+tally_most false = omega arith
+
 -- of the first n ways of a set, at most n are live
 pub most_live : (w : AddressTable) (z n : ℕ) → live_ways w z n ≤ n
 most_live w z zero = omega arith
-most_live w z (suc n) = let k = most_live w z n in let e = tally_most (ltb 0 (lock_at w (z + 64 * n)).holders) in omega (arith, k, e)
-  where
-    tally_most : (b : Bool) → tally b ≤ 1
-    tally_most true = omega arith
-    tally_most false = omega arith
+most_live w z (suc n) = let k = most_live w z n in let e = tally_most (ltb 0 (state_of (lock_at w (z + 64 * n))).holders) in omega (arith, k, e)

@@ -1,6 +1,7 @@
 -- The tables stand for a roll: what they know of each entry, and what a task that takes a seat and joins does. Assumes nothing.
 use Rattle.std.proofs.Common.{◌≡◌, ℕ, ◌+◌, ◌%◌, ◌<◌, ◌≤◌, Bool, true, false, not, ◌&&◌, ◌||◌, eqb, ltb, List, [], ◌∷◌, ◌++◌, length, sym, refl, ap, ◌∙◌, subst, arith, length-append}
 use mathlib.Core.Path.{fun_ext}
+use Rattle.std.proofs.Math.Bool.{not-not}
 use Rattle.std.proofs.lemmas.Bool.{eq-eqb, or_parts, or_from, cond_both, eqb-false, ne_eqb}
 use Rattle.task.specs.declared.Access.{Access}
 use Rattle.task.specs.Access.{writes}
@@ -21,6 +22,7 @@ use Rattle.tracker.specs.Tracked.{Tracked, sized, blocked_at}
 use Rattle.tracker.specs.declared.ways.AddressTable.{AddressTable}
 use Rattle.tracker.specs.declared.ways.Claimed.{Claimed}
 use Rattle.tracker.specs.declared.tracker.Tracker.{Tracker}
+use Rattle.tracker.proofs.Tables.{tally_most}
 use Rattle.tracker.proofs.Entries.{All, Cut, all_of_cut, cut_of_all, all_last, all-++, all_left, all_map, all_both, apart_of, repeats_of, absent_all, Distinct, distinct_of, doubled_of, apart_before, apart_after, distinct_more, distinct_same}
 
 -- what the tables know of an entry, by the map of addresses
@@ -162,7 +164,7 @@ tracked_join t t' v s ys x r version k out short room fits did isv versions coun
     (omega (arith, size, few, n)) in
     let isv' : version ≡ (writes x || not (live v a)) = isv ∙ ap (λ b. writes x || b) (j.fresh ∙ ap not lv) in
     let holds : r.holds ≡ not (against (writes x) (queue a v)) = j.holds ∙ holds_at_once v s ys x out in
-    let hit : tally (not r.holds) ≡ tally (against (writes x) (queue a v)) = ap (λ b. tally (not b)) holds ∙ ap tally (twice (against (writes x) (queue a v))) in
+    let hit : tally (not r.holds) ≡ tally (against (writes x) (queue a v)) = ap (λ b. tally (not b)) holds ∙ ap tally (not-not (against (writes x) (queue a v))) in
     let was : blocked_at t s ≡ hit_count v ys = mine.count ∙ stuck_hits v [] s ys absent tt mine.apart in
     let most = hit_most v ys in
     let now = counts (omega (arith, was, most, short)) in
@@ -205,14 +207,6 @@ tracked_join t t' v s ys x r version k out short room fits did isv versions coun
     (distinct_same v [] (bare s ys) (bare s (ys ++ (x ∷ []))) refl d)
     (omega (arith, few, n, n'))
   where
-    twice : (b : Bool) → not (not b) ≡ b
-    twice true = refl
-    twice false = refl
-
-    tally_most : (b : Bool) → tally b ≤ 1
-    tally_most true = omega arith
-    tally_most false = omega arith
-
     hit_most : (v : Roll) (xs : List Access) → hit_count v xs ≤ length xs
     hit_most v [] = omega arith
     hit_most v (x ∷ xs) = let k = hit_most v xs in let e = tally_most (against (writes x) (queue x.address v)) in omega (arith, k, e)

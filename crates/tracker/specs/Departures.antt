@@ -32,7 +32,7 @@ pub record Departed (t t' : Tracker) (M : ℕ → State) (a : ℕ) : Type 0 wher
 
 -- the lock at a way has few claims, and each seat's count covers its claims that wait there
 pub record Ready (t : Tracker) (i : ℕ) : Type 0 where
-  pub few : (lock_at t.table i).holders + length (state_of (lock_at t.table i)).waiting ≤ 512
+  pub few : (state_of (lock_at t.table i)).holders + length (state_of (lock_at t.table i)).waiting ≤ 512
   pub owed : (s : ℕ) → s < 256 → claims s (state_of (lock_at t.table i)).waiting ≤ blocked_at t s
 
 -- all that may hold the address at a way do, and each seat's count fell by its claims that became holders

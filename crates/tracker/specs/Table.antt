@@ -36,7 +36,7 @@ live_at w z = slice_index (vec_items w.live) z
 
 -- a way is live while somebody holds its address
 abbrev pub Live : AddressTable → ℕ → Type 0
-Live w i = 0 < (lock_at w i).holders
+Live w i = 0 < (state_of (lock_at w i)).holders
 
 -- a live address is at the way
 abbrev pub Found : AddressTable → ℕ → ℕ → Type 0
@@ -52,12 +52,12 @@ Full w a = (k : ℕ) → k < 8 → Live w (a % 64 + 64 * k)
 
 -- a way of the set of an address is not live
 abbrev pub Free : AddressTable → ℕ → ℕ → Type 0
-Free w a i = (i < 512) × (i % 64 ≡ a % 64) × ((lock_at w i).holders ≡ 0)
+Free w a i = (i < 512) × (i % 64 ≡ a % 64) × ((state_of (lock_at w i)).holders ≡ 0)
 
 -- how many of the first n ways of a set are live
 abbrev pub live_ways : AddressTable → ℕ → ℕ → ℕ
 live_ways w z zero = 0
-live_ways w z (suc n) = tally (nat_lt 0 (lock_at w (z + 64 * n)).holders) + live_ways w z n
+live_ways w z (suc n) = tally (nat_lt 0 (state_of (lock_at w (z + 64 * n))).holders) + live_ways w z n
 
 -- the table stands for the map M
 pub record Table (w : AddressTable) (M : ℕ → State) : Type 0 where
@@ -68,7 +68,7 @@ pub record Table (w : AddressTable) (M : ℕ → State) : Type 0 where
   pub apart : (i j : ℕ) → i < 512 → j < 512 → Live w i → Live w j → tag_at w i ≡ tag_at w j → i ≡ j
   pub home : (i : ℕ) → i < 512 → Live w i → tag_at w i % 64 ≡ i % 64
   -- where nobody holds, nobody waits
-  pub idle : (i : ℕ) → i < 512 → (lock_at w i).holders ≡ 0 → state_of (lock_at w i) ≡ vacant
+  pub idle : (i : ℕ) → i < 512 → (state_of (lock_at w i)).holders ≡ 0 → state_of (lock_at w i) ≡ vacant
   pub absent : (a : ℕ) → (M a).holders ≡ 0 → M a ≡ vacant
   -- each set's live ways are counted
   pub counted : (z : ℕ) → z < 64 → live_at w z ≡ live_ways w z 8

@@ -29,6 +29,7 @@ impl Tracker {
     }
 
     // One access fewer of the seat's task waits; after the last, the seat's place is covered.
+    // Kept: the order is only read and the span is changed; a record of both holds two borrows, and each clause speaks through them.
     fn unblock(&mut self, seat: u8, order: &Acceptance, span: &mut Span)
         ensures lowered { Lowered self.old self.new seat }
         ensures woken { Woken self.old self.new order.now span.old span.new }

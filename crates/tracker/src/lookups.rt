@@ -20,7 +20,7 @@ impl AddressTable {
 
     // Does somebody hold the address at this way?
     pub(crate) fn is_live(&self, way: Way) -> bool
-        ensures { result ≡ nat_lt 0 (lock_at self.now way.number).holders }
+        ensures { result ≡ nat_lt 0 (state_of (lock_at self.now way.number)).holders }
     {
         self.slots[way.number].lock.is_live()
     }
@@ -56,7 +56,7 @@ impl AddressTable {
     fn claim_at(&mut self, way: Way, address: u64, claim: Claim) -> bool
         ensures answer { result ≡ open_to (state_of (lock_at self.old way.number)) claim.writes }
         ensures tag { tag_at self.new way.number ≡ address }
-        ensures here { (lock_at self.old way.number).holders < 1000 → length (state_of (lock_at self.old way.number)).waiting < 256 → state_of (lock_at self.new way.number) ≡ joined_by (state_of (lock_at self.old way.number)) claim }
+        ensures here { (state_of (lock_at self.old way.number)).holders < 1000 → length (state_of (lock_at self.old way.number)).waiting < 256 → state_of (lock_at self.new way.number) ≡ joined_by (state_of (lock_at self.old way.number)) claim }
         ensures rest { ChangesOnlyWay self.old self.new way.number }
     {
         let slot = &mut self.slots[way.number];
@@ -77,7 +77,7 @@ impl AddressTable {
     pub(crate) fn promote_at(&mut self, way: Way) -> Option<u8>
         ensures answer { result ≡ promotes (state_of (lock_at self.old way.number)) }
         ensures tag { tag_at self.new way.number ≡ tag_at self.old way.number }
-        ensures here { (lock_at self.old way.number).holders < 1000 → state_of (lock_at self.new way.number) ≡ moves (state_of (lock_at self.old way.number)) }
+        ensures here { (state_of (lock_at self.old way.number)).holders < 1000 → state_of (lock_at self.new way.number) ≡ moves (state_of (lock_at self.old way.number)) }
         ensures rest { ChangesOnlyWay self.old self.new way.number }
         ensures shorter { OnSome result (length (state_of (lock_at self.new way.number)).waiting < length (state_of (lock_at self.old way.number)).waiting) }
     {
@@ -98,7 +98,7 @@ impl AddressTable {
     // If nobody holds the address at a way any more, its set has one live way fewer.
     pub(crate) fn close(&mut self, way: Way)
         ensures ways { self.new.slots.items ≡ self.old.slots.items }
-        ensures live { (z : ℕ) → live_at self.new z ≡ live_at self.old z - tally (way.number % 64 == z && not (nat_lt 0 (lock_at self.old way.number).holders)) }
+        ensures live { (z : ℕ) → live_at self.new z ≡ live_at self.old z - tally (way.number % 64 == z && not (nat_lt 0 (state_of (lock_at self.old way.number)).holders)) }
     {
         if !self.is_live(way) {
             let set = way.set();

@@ -3,6 +3,7 @@ ghost use Rattle.std.specs.Prelude.{◌≡◌, ℕ, ◌<◌, ◌≤◌};
 ghost use Rattle.tracker.specs.Covered.{Covered};
 
 // The places from first up to before end.
+// Kept: a Range of the library is no Copy value, and whoever walks a span takes its two ends apart anyway.
 #[derive(Clone, Copy, PartialEq, Eq, Debug)]
 pub struct Span {
     pub first: usize,
@@ -22,16 +23,13 @@ impl Span {
         ensures covered { place < 65536 → Covered self.new place }
         ensures stays { (p : ℕ) → Covered self.old p → Covered self.new p }
     {
+        let after = place.saturating_add(1);
         if self.first >= self.end {
             self.first = place;
-            self.end = place.saturating_add(1);
+            self.end = after;
             return;
         }
-        if place < self.first {
-            self.first = place;
-        }
-        if place >= self.end {
-            self.end = place.saturating_add(1);
-        }
+        self.first = self.first.min(place);
+        self.end = self.end.max(after);
     }
 }

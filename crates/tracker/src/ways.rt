@@ -41,6 +41,7 @@ pub struct AddressTable {
 }
 
 // What a claim met: was its address not live before, and does it hold the address at once?
+// Kept: the caller asks for each of the two by itself; as three cases (first, beside others, waits) it would ask by two matches.
 #[derive(Clone, Copy)]
 pub struct Claimed {
     pub fresh: bool,

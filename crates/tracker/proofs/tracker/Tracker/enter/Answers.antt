@@ -1,4 +1,5 @@
-use Rattle.std.proofs.Common.{◌≡◌, ◌<◌, Bool, true, false, not, List, [], length, take, sym, refl, ap, ◌∙◌, subst, arith, length-take, take_all, rules}
+use Rattle.std.proofs.Common.{◌≡◌, ◌<◌, not, List, [], length, take, sym, ap, ◌∙◌, subst, arith, length-take, take_all, rules}
+use Rattle.std.proofs.Math.Bool.{not-not}
 use Rattle.std.proofs.lemmas.List.{take_more}
 use Rattle.task.specs.declared.Access.{Access}
 use Rattle.claims.specs.Queues.{bare}
@@ -30,8 +31,4 @@ returns c v versions k absent few apart short most fits =
     let start = tracked_start c.args.self.now c.clear.new.self v s k absent few low e.table e.versions e.others e.own in
     let all : take i xs ≡ xs = take_all i xs (omega arith) in
     let end : Tracked c.loop-x.self (plus v s xs) = subst (λ (ys : List Access). Tracked c.loop-x.self (plus v s ys)) all (c.loop-x.invariant v versions start apart short most fits) in
-    (c.is_blocked.ensures ∙ ap not (tracked_blocked c.loop-x.self v [] (bare s xs) end) ∙ twice _, end)
-  where
-    twice : (b : Bool) → not (not b) ≡ b
-    twice true = refl
-    twice false = refl
+    (c.is_blocked.ensures ∙ ap not (tracked_blocked c.loop-x.self v [] (bare s xs) end) ∙ not-not _, end)

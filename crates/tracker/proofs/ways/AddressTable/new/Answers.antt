@@ -1,16 +1,8 @@
 use Rattle.std.proofs.Common.{◌≡◌, List, get_or, replicate, vec_items, ap, ◌∙◌}
 use lib.ListN.{get_or-replicate}
-use Rattle.std.proofs.lemmas.Result.{IfOk-from_err}
 use Rattle.tracker.specs.State.{state_of, blank}
-use Rattle.tracker.specs.Table.{Unused}
 use Rattle.tracker.specs.declared.ways.Slot.{Slot}
 use Rattle.tracker.proofs.ways.AddressTable.new.Goals as goal
-
-pub returns-in_err-slots : goal.returns-in_err-slots
-returns-in_err-slots c = IfOk-from_err c.from_residual.result Unused c.from_residual.ensures.0
-
-pub returns-in_err-live : goal.returns-in_err-live
-returns-in_err-live c = IfOk-from_err c.from_residual-in_err-live.result Unused c.from_residual-in_err-live.ensures.0
 
 pub returns : goal.returns
 returns c =
