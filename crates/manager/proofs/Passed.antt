@@ -1,9 +1,9 @@
 -- The seats that a walk over the places has passed. Assumes nothing.
 --   passed                     the listed seats that stand before a place
---   passed_hole, passed_seat   one place further
+--   passed_seat                one place further
 --   passed_has, passed_not     the seats whose place was passed, and the others
 use Rattle.std.proofs.Common.{◌≡◌, ℕ, zero, suc, ◌+◌, ◌<◌, ◌≤◌, min, Bool, true, false, cond, eqb, ltb, List, [], ◌∷◌, ◌++◌, length, get_or, take, vec_items, sym, ap, ◌∙◌, inl, inr, append_assoc, arith, length-append, length-take-le, get_or-take}
-use Rattle.std.proofs.lemmas.Bool.{lt-ltb, eq-eqb, or_left, or_right, both_ways, cases_Bool, cases_lt}
+use Rattle.std.proofs.lemmas.Bool.{lt-ltb, eq-eqb, or_left, or_right, both_ways, cases_Bool}
 use Rattle.acceptance.specs.declared.Acceptance.{Acceptance}
 use Rattle.acceptance.specs.Listed.{member, seats_in, below, listed, place_of}
 use Rattle.acceptance.proofs.Laws.{between, listed_low, listed_apart, listed_few, place_low, place_seat, before_place, below_between}
@@ -30,12 +30,7 @@ module _ (a : Acceptance) where
   pub passed_first : (p : ℕ) → listed a ≡ passed a p ++ between a (min p a.end) a.end
   passed_first p = below_between a (min p a.end) a.end (omega arith)
 
-  -- so they are listed, and the others are behind them
-  pub passed_listed : (p t : ℕ) → member t (passed a p) ≡ true → member t (listed a) ≡ true
-  passed_listed p t h =
-      let rest = between a (min p a.end) a.end in
-      ap (member t) (passed_first p) ∙ member-++ t (passed a p) rest ∙ or_left (member t (passed a p)) (member t rest) h
-
+  -- so the others are behind them
   pub passed_apart : (p t : ℕ) → member t (passed a p) ≡ true → member t (between a (min p a.end) a.end) ≡ false
   passed_apart p t h =
       let front = passed a p in
@@ -56,19 +51,7 @@ module _ (a : Acceptance) where
       let sum : length (listed a) ≡ length (passed a p) + length (between a (min p a.end) a.end) = ap length (passed_first p) ∙ length-append (passed a p) (between a (min p a.end) a.end) in
       omega arith
 
-  -- one place further there is no seat, or this one
-  pub passed_hole : (p : ℕ) → (p < a.end → below a (p + 1) ≡ below a p) → passed a (p + 1) ≡ passed a p
-  passed_hole p h =
-      elim (cases_lt p a.end) [
-        | inl lt ↦
-            let now : min (p + 1) a.end ≡ p + 1 = omega arith in
-            let was : min p a.end ≡ p = omega arith in
-            ap (below a) now ∙ h lt ∙ ap (below a) (sym was)
-        | inr le ↦
-            let same : min (p + 1) a.end ≡ min p a.end = omega arith in
-            ap (below a) same
-      ]
-
+  -- one place further there is this seat
   pub passed_seat : (p s : ℕ) → below a (p + 1) ≡ below a p ++ (s ∷ []) → p < a.end → passed a (p + 1) ≡ passed a p ++ (s ∷ [])
   passed_seat p s e lt =
       let now : min (p + 1) a.end ≡ p + 1 = omega arith in
