@@ -1,6 +1,6 @@
 -- The walk over the places at which a task may wake: its start, one place more, and its end. Assumes nothing.
 --   Walked                 what holds after the places before one
---   walk_start, place_none, place_seat   the walk
+--   walk_start, place_seat   the walk; at a place with no seat the check finds by itself that nothing changes
 --   awake_state, awake_sound             its end: every task that may is ready
 use Rattle.std.proofs.Common.{◌≡◌, ℕ, ◌+◌, ◌<◌, ◌≤◌, Bool, true, false, cond, not, ◌&&◌, ◌||◌, eqb, List, [], ◌∷◌, ◌++◌, map, filter, length, sym, refl, ap, ◌∙◌, subst, ap₂, inl, inr, append_assoc, append-nil, arith, length-append}
 use Rattle.std.proofs.lemmas.Bool.{eqb-true, eq-eqb, both_ways, and_parts, and_left, and_right, not-true, cases_Bool}
@@ -86,10 +86,6 @@ walk_start i span k =
       versions = refl;
     }
 
--- a place with no seat
-walk_still : (i j : Inner) (p q : ℕ) → passed i.order q ≡ passed i.order p → Walked i j p → Walked i j q
-walk_still i j p q e h = subst (λ (l : List ℕ). BecameReady i j (λ t. wakes i t && member t l) (filter (wakes i) l)) (sym e) h
-
 -- a task that was not reached wakes as at the start
 wakes_same : (i j : Inner) (p s : ℕ) → Walked i j p → member s (passed i.order p) ≡ false → wakes j s ≡ wakes i s
 wakes_same i j p s h new =
@@ -135,15 +131,7 @@ walk_more i j k p s r e new h answer g =
       versions = g.versions ∙ h.versions;
     }
 
--- one place further, with how many became ready: no seat stands there
-pub place_none : (i j : Inner) (p n : ℕ) → Walked i j p → n ≡ length (line_at i p) → below j.order (p + 1) ≡ below j.order p →
-    Walked i j (p + 1) × (n ≡ length (line_at i (p + 1)))
-place_none i j p n h count none =
-    let e : passed i.order (p + 1) ≡ passed i.order p =
-    subst (λ (a : Acceptance). passed a (p + 1) ≡ passed a p) h.order none in
-    (walk_still i j p (p + 1) e h, count ∙ ap (λ (l : List ℕ). length (filter (wakes i) l)) (sym e))
-
--- or one does
+-- one place further, with how many became ready
 more_by : (n m : ℕ) (xs : List ℕ) (s : ℕ) (r : Bool) → n ≡ length xs → m ≡ n + tally r → m ≡ length (xs ++ cond r (s ∷ []) [])
 more_by n m xs s true e c = let sum = length-append xs (s ∷ []) in omega arith
 more_by n m xs s false e c = let same : length (xs ++ []) ≡ length xs = ap length (append-nil xs) in omega arith

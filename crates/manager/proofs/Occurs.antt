@@ -2,8 +2,8 @@
 --
 --   occurrences-++           of two lists, one after the other
 --   occurrences_member, occurrences_absent   a number that is in the list occurs in it, and any other does not
---   fits_line, fits_more     numbers below 256, each once: there are at most 256, and fewer if one is missing
---   line_fits, line_room     the same for a list with each number that passes a test once
+--   fits_more                numbers below 256, each once, of which one is missing: there are fewer than 256
+--   line_room                the same for a list with each number that passes a test once
 use Rattle.std.proofs.Common.{◌≡◌, ℕ, zero, suc, ◌+◌, ◌<◌, ◌≤◌, Bool, true, false, cond, not, ◌||◌, eqb, List, [], ◌∷◌, ◌++◌, length, sym, refl, ap, ◌∙◌, inl, inr, arith}
 use Rattle.std.proofs.lemmas.Bool.{eqb-true, eqb-false, eq-eqb, ne_eqb, not-false, cases_eq}
 use Rattle.roll.specs.Tables.{tally}
@@ -122,11 +122,7 @@ few (suc n) xs once low =
     let shorter = few n (removed n xs) fewer (few_step n xs once low) in
     omega (arith, length_removed n xs, tally_one (member n xs))
 
--- a list in which each number occurs at most once, and none from 256 on, has at most 256
-pub fits_line : (xs : List ℕ) → ((t : ℕ) → occurrences t xs ≤ 1) → ((t : ℕ) → 256 ≤ t → occurrences t xs ≡ 0) → length xs ≤ 256
-fits_line xs once low = few 256 xs once low
-
--- and fewer if one of them does not occur
+-- of numbers below 256, each at most once, of which one does not occur, there are fewer than 256
 one_more : (s : ℕ) (xs : List ℕ) → occurrences s xs ≡ 0 → ((t : ℕ) → occurrences t xs ≤ 1) → (t : ℕ) → tally (eqb s t) + occurrences t xs ≤ 1
 one_more s xs none once t =
     elim (cases_eq t s) [
@@ -140,11 +136,7 @@ fits_more xs once low s lt none =
     let most = few 256 (s ∷ xs) (one_more s xs none once) (λ t le. omega (arith, tally_other s t (λ e. omega arith), low t le)) in
     omega arith
 
--- a line with each number that passes a test once, where none passes from 256 on, has at most 256
-pub line_fits : (xs : List ℕ) (p : ℕ → Bool) → ((t : ℕ) → occurrences t xs ≡ tally (p t)) → ((t : ℕ) → 256 ≤ t → p t ≡ false) → length xs ≤ 256
-line_fits xs p each low = fits_line xs (λ t. omega (arith, each t, tally_one (p t))) (λ t le. each t ∙ ap tally (low t le))
-
--- and fewer if one number does not pass
+-- so a line with each number that passes a test once has fewer, where none passes from 256 on and one below it does not
 pub line_room : (xs : List ℕ) (p : ℕ → Bool) → ((t : ℕ) → occurrences t xs ≡ tally (p t)) → ((t : ℕ) → 256 ≤ t → p t ≡ false) →
     (s : ℕ) → s < 256 → p s ≡ false → length xs < 256
 line_room xs p each low s lt none =
