@@ -5,6 +5,13 @@ use Rattle.queue.specs.declared.Line.{Line}
 use Rattle.queue.specs.declared.Notice.{Notice}
 use Rattle.queue.specs.Model.{contents_of}
 use Rattle.roll.specs.Built as built
+use Rattle.drive.specs.declared.lines.SentOut.{SentOut}
+use Rattle.drive.specs.declared.lines.Settled.{Settled}
+
+-- what dispatch answers: the seat, the kind and the name by their names
+abbrev pub dispatch_result : Result (ℕ × ℕ × ℕ) ManagerFault → Result SentOut ManagerFault
+dispatch_result (Ok t) = Ok (record { seat = t.0; kind = t.1; name = t.2 })
+dispatch_result (Err fault) = Err fault
 
 -- the slots of the work line after dispatch: a seat that was taken is written into the slot behind the contents
 abbrev pub slots_dispatched : List ℕ → ℕ → Result (ℕ × ℕ × ℕ) ManagerFault → List ℕ
@@ -22,7 +29,7 @@ as_notice n = record { seat = n.seat; worker = n.worker }
 abbrev pub notices_of : Line Notice → List built.Notice
 notices_of l = map notice_of (contents_of l)
 
--- what settle answers
-abbrev pub settle_result : Result (built.Notice × Result ℕ ManagerFault) ManagerFault → Result (Notice × Result ℕ ManagerFault) ManagerFault
-settle_result (Ok p) = Ok (as_notice p.0, p.1)
+-- what settle answers: the notice and what finish answered by their names
+abbrev pub settle_result : Result (built.Notice × Result ℕ ManagerFault) ManagerFault → Result Settled ManagerFault
+settle_result (Ok p) = Ok (record { notice = as_notice p.0; finished = p.1 })
 settle_result (Err fault) = Err fault

@@ -1,6 +1,7 @@
 // What feed answers.
-ghost use Rattle.std.specs.Prelude.{◌≡◌};
+ghost use Rattle.std.specs.Prelude.{◌≡◌, Some};
 ghost use Rattle.fault.specs.Numbers.{cause_number, cause_place};
+ghost use Rattle.drive.specs.Text.{fed_text};
 
 use fault::Cause;
 use std::fmt;
@@ -17,6 +18,17 @@ pub enum Fed {
 pub struct FeedFault {
     pub place: usize,
     pub cause: Cause,
+}
+
+impl fmt::Display for Fed {
+    ghost output = { λ fed. Some (fed_text fed) };
+
+    fn fmt<W: fmt::Write>(&self, f: &mut fmt::Formatter<W>) -> fmt::Result {
+        match *self {
+            Fed::Submitted { seat } => write!(f, "seat {seat}"),
+            Fed::Finished { woken } => write!(f, "woke {woken}"),
+        }
+    }
 }
 
 impl FeedFault {

@@ -10,5 +10,5 @@ mod turns;
 pub use fed::{Fed, FeedFault};
 pub use feeding::feed;
 pub use laws::turn_refuses_only_empty;
-pub use lines::{dispatch, settle};
-pub use turns::turn;
+pub use lines::{SentOut, Settled, dispatch, settle};
+pub use turns::{Ran, turn};

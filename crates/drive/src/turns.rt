@@ -6,25 +6,33 @@ ghost use Rattle.roll.specs.Calls.{step as stepping};
 ghost use Rattle.roll.specs.Built.{state_after, times, steps_at, turn_calls, turn_answer};
 ghost use Rattle.manager.specs.Model.{tables_of};
 ghost use Rattle.manager.specs.Answers.{state_with, setting_with};
+ghost use Rattle.drive.specs.Turns.{turn_result};
 
 use fault::ManagerFault;
 use host::Host;
 use manager::Manager;
 
+// What a turn did: the seat of the task that has run, and how many tasks became ready at its finish.
+#[derive(Clone, Copy, PartialEq, Eq, Debug)]
+pub struct Ran {
+    pub seat: u16,
+    pub woken: u16,
+}
+
 // Takes the first ready task, does all its steps on the host and finishes it. Answers its seat, and how many tasks became ready.
 // Where no task is ready it refuses, and nothing changes; it refuses for no other reason.
-pub fn turn<H: Host>(manager: &mut Manager, host: &mut H) -> Result<(u16, u16), ManagerFault>
-    ensures answer { result ≡ turn_answer (setting_with manager.old (H.Host.fixed host.old)) (state_with manager.old (H.Host.values host.old)) }
+pub fn turn<H: Host>(manager: &mut Manager, host: &mut H) -> Result<Ran, ManagerFault>
+    ensures answer { result ≡ turn_result (turn_answer (setting_with manager.old (H.Host.fixed host.old)) (state_with manager.old (H.Host.values host.old))) }
     ensures after { state_with manager.new (H.Host.values host.new) ≡ state_after (setting_with manager.old (H.Host.fixed host.old)) (state_with manager.old (H.Host.values host.old)) (turn_calls (setting_with manager.old (H.Host.fixed host.old)) (state_with manager.old (H.Host.values host.old))) }
     ensures fixed { H.Host.fixed host.new ≡ H.Host.fixed host.old }
     ensures tables { tables_of manager.new.inner ≡ tables_of manager.old.inner }
     ensures refused { is_ok result ≡ false → (manager.new ≡ manager.old) × (host.new ≡ host.old) }
     ensures empty { IfErr result (λ fault. fault ≡ LineEmpty) }
 {
-    let (seat, _, _) = manager.take()?;
+    let (seat, ..) = manager.take()?;
     run_steps(manager, host, seat);
     let woken = manager.finish(seat)?;
-    Ok((seat, woken))
+    Ok(Ran { seat, woken })
 }
 
 // Does the steps that are left to a seat, none where it is not running.
@@ -33,5 +41,5 @@ fn run_steps<H: Host>(manager: &mut Manager, host: &mut H, seat: u16)
     ensures fixed { H.Host.fixed host.new ≡ H.Host.fixed host.old }
     ensures tables { tables_of manager.new.inner ≡ tables_of manager.old.inner }
 {
-    while let Ok(_) = manager.step(host, seat) {}
+    while manager.step(host, seat).is_ok() {}
 }

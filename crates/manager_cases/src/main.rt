@@ -4,12 +4,12 @@
 #![tactic(auto)]
 
 mod asked;
+mod bench;
 mod case;
 mod shown;
 
 use anyhow::Context;
-use asked::number;
-use case::{Sizes, run_case};
+use case::run_case;
 
 fn main(rt: HostRuntime) -> anyhow::Result<()> {
     run_cases(&rt)
@@ -21,14 +21,7 @@ fn run_cases(rt: &HostRuntime) -> anyhow::Result<()> {
         let mut words = line.as_str().split_whitespace();
         let label = words.next().context("a case has a label")?;
         println!(rt; "== {label}")?;
-        let sizes = Sizes {
-            seats: number(&mut words)?,
-            versions: number(&mut words)?,
-            stamps: number(&mut words)?,
-            work: number(&mut words)?,
-            notices: number(&mut words)?,
-        };
-        run_case(rt, sizes, &mut words)?;
+        run_case(rt, &mut words)?;
     }
     Ok(())
 }

@@ -2,8 +2,7 @@
 #![tactic(auto)]
 
 use rehearse_run::MAX_INPUT;
-use std::env;
-use std::io::Read;
+use stream_program::serve;
 
 const HELP: &str = "usage: rehearse < MESSAGES
 
@@ -15,20 +14,7 @@ Where a submission stalls, by 10, 11 or 12, one task runs, and the same message 
 docs/REHEARSE.md has an example, docs/MESSAGES.md the bytes of a message, docs/REFUSALS.md the numbers of what is refused.";
 
 fn main(rt: HostRuntime) -> anyhow::Result<()> {
-    serve(&rt)
-}
-
-// Prints the help where there is an argument, and else the lines of what standard input holds.
-fn serve(rt: &HostRuntime) -> anyhow::Result<()> {
-    if env::args(rt)?.count() > 1 {
-        rt.println(HELP)?;
-        return Ok(());
-    }
-    let mut bytes = Vec::new(rt.alloc());
-    rt.stdin().take(MAX_INPUT as u64).read_to_end(&mut bytes)?;
-    let rehearsal = rehearse_run::rehearse(rt.alloc(), bytes.as_slice())?;
-    for line in rehearsal.lines.iter() {
-        println!(rt; "{line}")?;
-    }
-    Ok(())
+    serve(&rt, HELP, MAX_INPUT as u64, |bytes| {
+        rehearse_run::rehearse(rt.alloc(), bytes)
+    })
 }

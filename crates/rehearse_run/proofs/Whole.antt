@@ -11,7 +11,8 @@ use Rattle.rehearse_run.specs.Rounds.{rounds, rehearsed_state, Went}
 use Rattle.runs.specs.Obeys.{history, Lawful, Obeys}
 use Rattle.rehearse_run.specs.Ends.{Ends, Ended}
 use Rattle.rehearse_run.specs.Made.{rehearsed_calls}
-use Rattle.rehearse_run.specs.Job.{max_input, stamp_count, stage, start}
+use Rattle.serial_run.specs.Job.{max_input, stamp_count}
+use Rattle.rehearse_run.specs.Job.{stage, start}
 use Rattle.rehearse_run.proofs.Looping.{rounds_are}
 use Rattle.rehearse_run.proofs.Calling.{rehearsed_after}
 use Rattle.rehearse_run.proofs.Still.{AllStill, Stuck}

@@ -4,19 +4,14 @@ use Rattle.roll.specs.Calls.{Setting, setting, State, made}
 use Rattle.roll.specs.Law.{Idle}
 use Rattle.roll.specs.Rehearsal.{rehearsed}
 use Rattle.stamp_host.specs.Stamps.{fixed_of, values_of, fixed_for, all_zero}
+use Rattle.serial_run.specs.Job.{max_input, stamp_count}
 use Rattle.runs.specs.Obeys.{history, Lawful}
 use Rattle.rehearse_run.specs.declared.Rehearsal.{Rehearsal}
 use Rattle.rehearse_run.specs.Ends.{Ends, Ended}
 use Rattle.rehearse_run.specs.Made.{rehearsed_calls}
 use Rattle.rehearse_run.specs.Rounds.{rounds, lines_of, rehearsed_state}
 
--- how many bytes are looked at, and how many stamps, seats and versions there are
-abbrev pub max_input : ℕ
-max_input = 65536
-
-abbrev pub stamp_count : ℕ
-stamp_count = 64
-
+-- how many seats and versions there are; the bytes that are looked at and the stamps are as many as those of `serial`
 abbrev pub seat_count : ℕ
 seat_count = 256
 

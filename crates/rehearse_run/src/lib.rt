@@ -6,20 +6,17 @@ mod line;
 mod rounds;
 
 ghost use Rattle.rehearse_run.specs.Job.{Rehearses};
-ghost use Rattle.std.specs.Prelude.{IfOk};
+ghost use Rattle.rehearse_run.specs.Text.{text_of};
+ghost use Rattle.std.specs.Prelude.{IfOk, Some};
 
 pub use line::{Line, line_bytes};
 use message::Reader;
-use rounds::feed_all;
+use rounds::Session;
 use runs::new_manager;
+pub use serial_run::{MAX_INPUT, STAMPS};
 use stamp_host::StampHost;
 use std::alloc::{AllocError, Global};
-
-// How many bytes of a stream are looked at.
-pub const MAX_INPUT: usize = 65_536;
-
-// How many stamps there are.
-pub const STAMPS: usize = 64;
+use std::fmt;
 
 // How many seats and versions the manager has.
 pub const SEATS: usize = 256;
@@ -33,15 +30,33 @@ pub struct Rehearsal {
     pub host: StampHost,
 }
 
+// The lines, each with a newline at its end.
+impl fmt::Display for Rehearsal {
+    ghost output = { λ r. Some (text_of r.lines.items) };
+
+    fn fmt<W: fmt::Write>(&self, f: &mut fmt::Formatter<W>) -> fmt::Result {
+        for line in self.lines.iter() {
+            writeln!(f, "{line}")?;
+        }
+        Ok(())
+    }
+}
+
 // Feeds every message of the first 65,536 bytes, with a turn wherever a submission stalls, and turns at the end until no task is unfinished.
 pub fn rehearse(heap: Global, bytes: &[u8]) -> Result<Rehearsal, AllocError>
     ensures { IfOk result (λ p. Rehearses bytes.now p) }
 {
-    let mut host = StampHost::zeros(heap, STAMPS)?;
-    let mut manager = new_manager(heap, &host, SEATS, VERSIONS)?;
-    let mut lines = Vec::new(heap);
+    let host = StampHost::zeros(heap, STAMPS)?;
+    let manager = new_manager(heap, &host, SEATS, VERSIONS)?;
+    let lines = Vec::new(heap);
+    let mut session = Session {
+        manager,
+        host,
+        lines,
+    };
     let looked_at = bytes.len().min(MAX_INPUT);
     let mut reader = Reader::new(&bytes[0..looked_at]);
-    feed_all(&mut manager, &mut host, &mut reader, &mut lines)?;
+    session.feed_all(&mut reader)?;
+    let Session { host, lines, .. } = session;
     Ok(Rehearsal { lines, host })
 }

@@ -1,10 +1,11 @@
 use Rattle.std.proofs.Common.{◌≡◌, ℕ, ◌-◌, min, length, take, vec_items, sym, ap, ◌∙◌, subst, arith}
 use Rattle.host.specs.Meaning.{Values}
-use Rattle.roll.specs.Calls.{State}
+use Rattle.roll.specs.Calls.{Setting, State}
 use Rattle.roll.specs.Rehearsal.{rehearsed}
 use Rattle.stamp_host.specs.Stamps.{fixed_of, values_of, all_zero}
 use Rattle.manager.specs.Answers.{state_with, setting_with}
 use Rattle.rehearse_run.specs.Rounds.{rounds, lines_of, rehearsed_state}
+use Rattle.rehearse_run.specs.Session.{state_at, lines_at}
 use Rattle.runs.specs.Obeys.{Lawful}
 use Rattle.rehearse_run.specs.Ends.{Ends, Ended}
 use Rattle.rehearse_run.specs.Made.{rehearsed_calls}
@@ -23,8 +24,8 @@ returns c =
     let b = state_with c.in_ok-manager.manager w in
     let reader = c.new-reader.result in
     let ls = lines_of (vec_items c.new-lines.result) in
-    let last = lines_of (vec_items c.feed_all.new.lines) in
-    let z = state_with c.feed_all.new.manager (values_of c.feed_all.new.host) in
+    let last = lines_at c.feed_all.new.self in
+    let z = state_at c.feed_all.new.self in
     let looked = c.min-looked_at.result - 0 in
     let most : looked ≡ min (length bytes) 65536 = omega (arith, c.min-looked_at.ensures) in
     let front : reader.bytes.now ≡ take 65536 bytes = c.new-reader.ensures.bytes ∙ take_most bytes 65536 looked most in
@@ -39,7 +40,7 @@ returns c =
     obeys_here h w c.in_ok-host.ensures.fixed c.in_ok-host.ensures.values c.in_ok-manager.ensures.law (rehearsed_calls stage (take 65536 bytes) rounds 0 start) in
     let left = ap (λ (x : State ℕ). x.values) (state ∙ calls_leave (take 65536 bytes) lawful) in
     record {
-      fixed = c.feed_all.ensures.fixed ∙ c.in_ok-host.ensures.fixed;
+      fixed = ap (λ (x : Setting ℕ). x.host) c.feed_all.ensures.setting ∙ c.in_ok-host.ensures.fixed;
       lines = lines;
       values = ap (λ (x : State ℕ). x.values) state;
       ends = subst Ends (sym lines) (all_ends bytes);

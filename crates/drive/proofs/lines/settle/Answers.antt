@@ -5,6 +5,7 @@ use Rattle.queue.specs.declared.Line.{Line}
 use Rattle.queue.specs.declared.Notice.{Notice}
 use Rattle.roll.specs.Built.{state_after, settle_calls, settle_answer, settled}
 use Rattle.manager.specs.Answers.{state_alone, setting_alone}
+use Rattle.drive.specs.declared.lines.Settled.{Settled}
 use Rattle.drive.specs.Lines.{notice_of, notices_of, settle_result}
 use Rattle.drive.proofs.lines.settle.Goals as goal
 
@@ -25,6 +26,9 @@ returns-in_err-notice c =
       refused = λ _. (refl, why.2);
     })
 
+abbrev settled_as : Notice → Result ℕ ManagerFault → Result Settled ManagerFault
+settled_as n r = Ok (record { notice = n; finished = r })
+
 pub returns : goal.returns
 returns c =
     let m = setting_alone c.args.manager.now in
@@ -33,10 +37,10 @@ returns c =
     let first = c.in_ok-notice.ensures.cases in
     record {
       answer =
-          ap (λ (r : Result ℕ ManagerFault). Ok (n, r)) c.finish.ensures.answer
+          ap (λ (r : Result ℕ ManagerFault). settled_as n r) c.finish-finished.ensures.answer
           ∙ ap (λ (xs : List Notice). settle_result (settle_answer (map notice_of xs) m b)) (sym first);
-      after = c.finish.ensures.after ∙ ap (λ (xs : List Notice). state_after m b (settle_calls (map notice_of xs))) (sym first);
-      tables = c.finish.ensures.tables;
+      after = c.finish-finished.ensures.after ∙ ap (λ (xs : List Notice). state_after m b (settle_calls (map notice_of xs))) (sym first);
+      tables = c.finish-finished.ensures.tables;
       contents = ap (λ (xs : List Notice). settled (map notice_of xs)) (sym first);
       slots = c.pop.ensures.slots;
       lent = c.pop.ensures.lent;

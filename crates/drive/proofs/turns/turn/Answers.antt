@@ -1,5 +1,6 @@
-use Rattle.std.proofs.Common.{◌≡◌, ℕ, Ok, Err, refl, ◌∙◌, arith}
+use Rattle.std.proofs.Common.{◌≡◌, ℕ, Ok, Err, refl, ap, ◌∙◌, arith}
 use Rattle.std.proofs.lemmas.Result.{err_from_is_err_and}
+use Rattle.drive.specs.Turns.{turn_result}
 use Rattle.drive.proofs.Turning.{turn_of_parts, turn_of_none}
 use Rattle.drive.proofs.turns.turn.Goals as goal
 
@@ -10,7 +11,7 @@ returns-in_err-seat g c =
     let none = turn_of_none c.args.manager.now c.take.new.self (g.H.Host.fixed c.args.host.now) (g.H.Host.values c.args.host.now) c.in_err-seat.field-0.0
     c.in_err-seat.ensures.answer c.take.ensures.after in
     rw (p.1, p.2) (record {
-      answer = none.0;
+      answer = ap turn_result none.0;
       after = none.1;
       fixed = refl;
       tables = c.take.ensures.tables;
@@ -33,7 +34,7 @@ returns g c =
     (Ok c.in_ok-woken.woken) c.in_ok-seat.ensures.answer c.take.ensures.after c.take.ensures.tables c.run_steps.ensures.after
     c.in_ok-woken.ensures.answer c.finish.ensures.after in
     record {
-      answer = all.0;
+      answer = ap turn_result all.0;
       after = all.1;
       fixed = c.run_steps.ensures.fixed;
       tables = c.finish.ensures.tables ∙ c.run_steps.ensures.tables ∙ c.take.ensures.tables;
