@@ -1,4 +1,4 @@
-use Rattle.std.proofs.Common.{◌≡◌, ◌∙◌, subst}
+use Rattle.std.proofs.Common.{◌∙◌, subst}
 use Rattle.roll.specs.Built.{turn_answer}
 use Rattle.rehearse_run.specs.declared.rounds.Next.{Next}
 use Rattle.rehearse_run.specs.declared.rounds.Next.TheVariants.{On}
