@@ -13,7 +13,7 @@ use claims::Claim;
 use task::Access;
 
 // Does an access take a version? It does if it writes, or if its address was not live.
-fn takes_version(output: bool, fresh: bool) -> bool
+pub(crate) fn takes_version(output: bool, fresh: bool) -> bool
     ensures { result ≡ (output || fresh) }
 {
     output || fresh

@@ -7,6 +7,7 @@ ghost use Rattle.roll.specs.Tables.{live, needs, fresh, crowded, stall, tally};
 ghost use Rattle.tracker.specs.Table.{live_at};
 ghost use Rattle.tracker.specs.Tracked.{Tracked, sized, unless};
 
+use crate::enters::takes_version;
 use crate::tracker::Tracker;
 use crate::ways::{Set, WAYS};
 use fault::TableFault;
@@ -103,7 +104,7 @@ impl Tracker {
         ensures full { slice_index demand.old.added.counts (access.now.address % 64) < 255 → demand.old.full ≡ crowded (λ z. live_at self.now.table z + slice_index demand.old.added.counts z) → demand.new.full ≡ crowded (λ z. live_at self.now.table z + slice_index demand.new.added.counts z) }
     {
         let live = self.is_live(access.address);
-        if access.writes() || !live {
+        if takes_version(access.writes(), !live) {
             demand.versions = demand.versions.saturating_add(1);
         }
         if !live {

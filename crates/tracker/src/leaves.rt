@@ -18,23 +18,15 @@ use acceptance::Acceptance;
 use task::Access;
 
 impl Tracker {
-    // One access fewer of the seat's task waits. Is it the last?
-    fn lower(&mut self, seat: u8) -> bool
-        ensures lowered { Lowered self.old self.new seat }
-        ensures last { result ≡ (blocked_at self.new seat == 0) }
-    {
-        let left = self.blocked[seat as usize].saturating_sub(1);
-        self.blocked[seat as usize] = left;
-        left == 0
-    }
-
     // One access fewer of the seat's task waits; after the last, the seat's place is covered.
     // Kept: the order is only read and the span is changed; a record of both holds two borrows, and each clause speaks through them.
     fn unblock(&mut self, seat: u8, order: &Acceptance, span: &mut Span)
         ensures lowered { Lowered self.old self.new seat }
         ensures woken { Woken self.old self.new order.now span.old span.new }
     {
-        if self.lower(seat) {
+        let left = self.blocked[seat as usize].saturating_sub(1);
+        self.blocked[seat as usize] = left;
+        if left == 0 {
             span.cover(order.place(seat));
         }
     }

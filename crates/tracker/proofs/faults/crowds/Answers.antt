@@ -11,13 +11,6 @@ returns-then-accesses-le-WAYS c =
     let xs = c.args.accesses.now in
     sym (ap is_some (crowded_none (λ z. fresh (sized 0 0) [] z xs) (λ z lt. let k = fresh_most [] z xs in omega (arith, k))))
 
--- nothing is counted yet
-pub loop-access-init : goal.loop-access-init
-loop-access-init c z lt = none (get_or c.none-counts.result.counts z 0) (fresh (sized 0 0) [] z c.args.accesses.now) (c.none-counts.ensures z lt)
-  where
-    none : (m n : ℕ) → m ≡ 0 → (m ≤ 8) × (m + n ≡ n)
-    none m n e = (omega (arith, e), omega (arith, e))
-
 -- this access is one too many of its set
 pub returns-then-add : goal.returns-then-add
 returns-then-add c =

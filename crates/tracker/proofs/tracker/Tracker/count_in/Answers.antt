@@ -7,19 +7,19 @@ use Rattle.tracker.specs.declared.faults.Demand.{Demand}
 use Rattle.tracker.specs.declared.faults.SetCounts.{SetCounts}
 use Rattle.tracker.proofs.Crowds.{crowded_adds}
 use Rattle.tracker.proofs.tracker.Tracker.count_in.Goals as goal
-use Rattle.tracker.proofs.tracker.Tracker.count_in.Goals.{then-writes, else-writes+else-not-live}
+use Rattle.tracker.proofs.tracker.Tracker.count_in.Goals.{then-takes_version, else-takes_version}
 
 -- a new address is counted in its set
-pub returns-then-not-live-2-clause-full : goal.returns-then-not-live-2-clause-full
-returns-then-not-live-2-clause-full c low was =
+pub returns-then-not-live-clause-full : goal.returns-then-not-live-clause-full
+returns-then-not-live-clause-full c low was =
     let w = c.args.self.now.table in
     let d = c.args.demand.now in
-    let d₁ = c.if-writes.demand in
+    let d₁ = c.if-takes_version.demand in
     let d' = c.add.new.self in
     let s = c.of-set.result.number in
-    let same : (d₁.added ≡ d.added) × (d₁.full ≡ d.full) = elim c.if-writes.branch [
-      | then-writes x ↦ (ap (λ (d : Demand). d.added) x.demand-is, ap (λ (d : Demand). d.full) x.demand-is)
-      | else-writes+else-not-live x ↦ (ap (λ (d : Demand). d.added) x.demand-is, ap (λ (d : Demand). d.full) x.demand-is)
+    let same : (d₁.added ≡ d.added) × (d₁.full ≡ d.full) = elim c.if-takes_version.branch [
+      | then-takes_version x ↦ (ap (λ (d : Demand). d.added) x.demand-is, ap (λ (d : Demand). d.full) x.demand-is)
+      | else-takes_version x ↦ (ap (λ (d : Demand). d.added) x.demand-is, ap (λ (d : Demand). d.full) x.demand-is)
     ] in
     let inside : s < length (vec_items w.live) = omega (arith, w.live.ok.0, w.counted, c.of-set.result.low) in
     let lives = get_or_read (vec_items w.live) s c.index.result.now inside c.index.ensures 0 in

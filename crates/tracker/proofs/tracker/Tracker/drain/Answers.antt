@@ -1,9 +1,6 @@
 use Rattle.std.proofs.Common.{refl}
-use Rattle.tracker.proofs.Draining.{draining_start, draining_more, draining_end, woken_none, woken_more, woken_same, woken_end}
+use Rattle.tracker.proofs.Draining.{draining_more, draining_end, woken_more, woken_same, woken_end}
 use Rattle.tracker.proofs.tracker.Tracker.drain.Goals as goal
-
-pub loop-seat-init : goal.loop-seat-init
-loop-seat-init c = (draining_start c.args.self.now c.args.way.number, woken_none c.args.self.now c.args.order.now c.args.span.now)
 
 pub loop-seat-preserved : goal.loop-seat-preserved
 loop-seat-preserved c =

@@ -5,12 +5,9 @@ use Rattle.claims.proofs.Leaving.{with}
 use Rattle.claims.proofs.Queues.{blocked_hits, hits}
 use Rattle.tracker.specs.Tracked.{Tracked}
 use Rattle.tracker.proofs.Room.{unread}
-use Rattle.tracker.proofs.Draining.{woken_none, woken_more}
+use Rattle.tracker.proofs.Draining.{woken_more}
 use Rattle.tracker.proofs.Parting.{tracked_part, tracked_gone, hits_drop}
 use Rattle.tracker.proofs.tracker.Tracker.leave.Goals as goal
-
-pub loop-x-init : goal.loop-x-init
-loop-x-init c = ((λ pre post k free. k), woken_none c.args.self.now c.args.order.now c.args.span.now)
 
 pub loop-x-preserved : goal.loop-x-preserved
 loop-x-preserved c =

@@ -1,16 +1,10 @@
 use Rattle.std.proofs.Common.{ℕ, ◌||◌, [], length, is_some, sym, ap, ◌∙◌}
-use Rattle.std.proofs.lemmas.Bool.{lt-ltb, le-ltb, or_left}
+use Rattle.std.proofs.lemmas.Bool.{le-ltb}
 use Rattle.roll.specs.Tables.{fresh, crowded}
 use Rattle.tracker.specs.Tracked.{sized}
 use Rattle.tracker.proofs.Crowds.{crowded_alike}
 use Rattle.tracker.proofs.Room.{fresh_sized}
 use Rattle.tracker.proofs.tracker.Tracker.never_fits.Goals as goal
-
--- there are more accesses than versions
-pub returns-then-accesses-versions : goal.returns-then-accesses-versions
-returns-then-accesses-versions c =
-    let more = lt-ltb c.args.versions (length c.args.accesses.now) c.if-accesses-versions.true in
-    more ∙ sym (or_left _ _ more)
 
 -- there are not, so the answer is whether a set is crowded
 pub returns-else-accesses-versions : goal.returns-else-accesses-versions
