@@ -24,6 +24,7 @@ impl Acceptance {
     }
 
     // Lists a seat behind all others, or refuses it where it is listed already.
+    // Kept: a bool as that of `HashSet::insert`: there is one way to refuse and no value to hand back.
     pub fn push(&mut self, seat: u8) -> bool
         ensures answer { result ≡ not (member seat (listed self.old)) }
         ensures listed { listed self.new ≡ (if result then listed self.old ++ (seat ∷ []) else listed self.old) }
@@ -40,6 +41,7 @@ impl Acceptance {
     }
 
     // Removes a seat and leaves a hole at its place, or refuses where it is not listed.
+    // Kept: a bool as that of `HashSet::remove`: there is one way to refuse and no value to hand back.
     pub fn remove(&mut self, seat: u8) -> bool
         ensures answer { result ≡ member seat (listed self.old) }
         ensures listed { listed self.new ≡ (if result then removed seat (listed self.old) else listed self.old) }

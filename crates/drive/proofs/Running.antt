@@ -1,9 +1,7 @@
 -- The steps that are left to a seat, done one after another. Assumes nothing.
 use Rattle.std.proofs.Common.{◌≡◌, ℕ, suc, Bool, true, false, cond, [], ◌∷◌, Some, None, Ok, Err, Option, Result, sym, refl, ap, ◌∙◌, arith}
 use Rattle.fault.specs.declared.ManagerFault.{ManagerFault}
-use Rattle.host.specs.Meaning.{Fixed}
 use Rattle.roll.specs.Roll.{Standing, waiting, ready, running, Entry, Roll, sits, stand, find, change}
-use Rattle.roll.specs.Tables.{Tables}
 use Rattle.roll.specs.Calls.{Setting, State, step, stepped, stepped_at, perform}
 use Rattle.roll.specs.Built.{left_by, state_after, times, steps_at}
 use Rattle.manager.specs.Answers.{step_answer}
@@ -11,11 +9,6 @@ use Rattle.manager.specs.Answers.{step_answer}
 -- an answer is not both
 pub ok_err : {A E : Type 0} (x : A) (y : E) → ◌≡◌ {A = Result A E} (Ok x) (Err y) → ⊥
 ok_err x y p = let z : ◌≡◌ {A = ℕ} 0 1 = cc in omega arith
-
--- settings with the same tables and the same host are the same
-pub same_setting : {V : Type 0} {t u : Tables} {h k : Fixed V} → t ≡ u → h ≡ k → ◌≡◌ {A = Setting V} (record { tables = t; host = h }) (record { tables = u; host = k })
-same_setting {V} {t} {u} {h} {k} p q =
-    ap (λ (x : Tables). record { tables = x; host = h }) p ∙ ap (λ (x : Fixed V). record { tables = u; host = x }) q
 
 -- the entry whose standing was changed is found in that standing
 pub found_changed : (s : ℕ) (st : Standing) (roll : Roll) (e : Entry) → find s roll ≡ Some e → find s (change s st roll) ≡ Some (stand st e)

@@ -12,7 +12,8 @@ use Rattle.manager.specs.Model.{tables_of}
 use Rattle.manager.specs.Answers.{state_with, setting_with, state_alone, setting_alone}
 use Rattle.drive.specs.Law.{RefusesOnlyEmpty}
 use Rattle.drive.proofs.Beside.{take_says, take_leaves, finish_says, finish_leaves}
-use Rattle.drive.proofs.Running.{ok_err, same_setting, found_changed, left_to, all_done}
+use Rattle.roll.proofs.Parts.{same_setting, after-++}
+use Rattle.drive.proofs.Running.{ok_err, found_changed, left_to, all_done}
 
 -- what a take does: it is refused for want of a ready task, or the seat that it answers is running
 abbrev Takes : {V : Type 0} → Outcome V → Type 0
@@ -55,11 +56,6 @@ module _ {V : Type 0} (m : Setting V) where
   finishes_after s ss b e f =
       finishes s (all_done s m b) e (ap (λ (o : Option Entry). find s (state_after m b (times (steps_at o) (step s))).roll) f ∙ ran_all s ss b e f)
 
-  -- calls one list behind another
-  after-++ : (b : State V) (cs ds : List Call) → state_after m b (cs ++ ds) ≡ state_after m (state_after m b cs) ds
-  after-++ b [] ds = refl
-  after-++ b (c ∷ cs) ds = after-++ (left_by b (perform m b c)) cs ds
-
   -- a turn from its take on: what it answers, where it comes to, and that its finish is not refused
   turned_from : (o : Outcome V) → Takes o → (t : ℕ × ℕ × ℕ) → Ok t ≡ take_answer o → (b d k : State V) → d ≡ left_by b o →
       (q : Result ℕ ManagerFault) → q ≡ finish_answer (perform m (all_done t.0 m d) (finish t.0)) → k ≡ left_by (all_done t.0 m d) (perform m (all_done t.0 m d) (finish t.0)) →
@@ -75,7 +71,7 @@ module _ {V : Type 0} (m : Setting V) where
       let said : q ≡ finish_answer (perform m done (finish s)) = q-is ∙ ap finish_answer out in (
         ap (λ (x : ℕ). with_seat x q) seat ∙ ap (with_seat s) said,
         k-is ∙ ap (λ (x : State V). left_by x (perform m (all_done t.0 m d) (finish t.0))) at ∙ ap (left_by done) out
-            ∙ sym (after-++ r.state (times (left_to s r.state) (step s)) (finish s ∷ [])),
+            ∙ sym (after-++ m r.state (times (left_to s r.state) (step s)) (finish s ∷ [])),
         λ fault e. finishes_after s h.1.1 r.state h.1.0 h.1.2 fault (sym said ∙ e),
       )
 

@@ -38,6 +38,7 @@ pub trait Host {
         ensures { result ≡ (fixed self.now).held address };
 
     // Copies the value at the address to a position of the seat. Beyond the meaning it changes nothing.
+    // Kept: these parameters are the interface that hosts are written against, so seat and position stay two plain numbers.
     fn bring(&mut self, address: u64, seat: u16, position: u8)
         ensures fixed { fixed self.new ≡ fixed self.old }
         ensures values { values self.new ≡ brought (fixed self.old) address seat position (values self.old) };

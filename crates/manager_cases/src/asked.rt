@@ -99,6 +99,7 @@ fn accesses(heap: Global, words: &mut SplitWhitespace<'_>) -> anyhow::Result<Vec
 {
     let mut accesses = Vec::new(heap);
     while let Some(word) = words.next() {
+        // Kept: these words are those of the cases alone, and `Direction` and `FromStr` are both of other crates.
         let direction = match word {
             "in" => Direction::In,
             "out" => Direction::Out,

@@ -4,7 +4,6 @@ use crate::shown::{Outcome, Refusal};
 use cases::from_hex;
 use drive::{dispatch, feed, settle, turn};
 use fault::ManagerFault;
-use host::ReadBack;
 use manager::Manager;
 use message::Reader;
 use queue::{Line, Notice};
@@ -70,17 +69,6 @@ impl Bench<'_> {
                     println!(rt; "{refusal}; still at {at}")?;
                     break;
                 }
-            }
-        }
-        Ok(())
-    }
-
-    // Prints the stamps that are not zero.
-    pub fn show_stamps(&self, rt: &HostRuntime) -> anyhow::Result<()> {
-        for address in 0..self.host.len() as u64 {
-            match self.host.value_at(address) {
-                None | Some(0) => {}
-                Some(stamp) => println!(rt; "stamp {address} = {stamp}")?,
             }
         }
         Ok(())

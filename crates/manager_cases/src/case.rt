@@ -6,6 +6,7 @@ use cases::same_stamps;
 use fault::ManagerFault;
 use queue::{Line, Notice};
 use runs::{Answer, Call, new_manager, run_calls};
+use serial_run::StampsLeft;
 use stamp_host::StampHost;
 use std::str::SplitWhitespace;
 
@@ -62,7 +63,8 @@ pub fn run_case(rt: &HostRuntime, words: &mut SplitWhitespace<'_>) -> anyhow::Re
         }
         requests.push(asked)?;
     }
-    bench.show_stamps(rt)?;
+    let stamps = StampsLeft { host: &bench.host };
+    print!(rt; "{stamps}")?;
     if answers.len() == requests.len() {
         let calls: Vec<Call<'_>> = requests
             .iter()

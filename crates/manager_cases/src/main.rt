@@ -15,6 +15,7 @@ fn main(rt: HostRuntime) -> anyhow::Result<()> {
     run_cases(&rt)
 }
 
+// Kept: behind the label these lines have other words than those of a stream's case, so that only the reading of lines is the same.
 fn run_cases(rt: &HostRuntime) -> anyhow::Result<()> {
     for line in rt.lines(rt.alloc()) {
         let line = line?;

@@ -16,6 +16,8 @@ use task::{MAX_ACCESSES, Task};
 const SEAT: u16 = 0;
 
 // Brings every reading access of the task to the seat's positions from 0 on, and notes each value.
+// Kept: a struct of host and task would borrow the host, and each clause on the host would speak of it through that borrow.
+// Kept: that what is fixed of a host stays is said at each function that changes one, since it is known of the trait's methods alone.
 fn bring_all<H: ReadBack>(host: &mut H, task: &Task, read: &mut Vec<H::Value>)
     requires held { AllHeld (H.Host.fixed host.old) (accesses_of task.now) }
     requires empty { vec_len read.old ≡ 0 }

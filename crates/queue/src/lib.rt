@@ -11,6 +11,7 @@ ghost use Rattle.queue.specs.Window.{Within};
 pub use window::Window;
 
 // The elements stand in those of the slots that are in use.
+// Kept: a line is a ring over memory that is handed over and asks for none, so the slots in use are noted beside a slice.
 #[derive(Drop)]
 pub struct Line<'a, T: Copy> {
     slots: &'a mut [T],

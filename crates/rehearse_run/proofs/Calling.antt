@@ -9,7 +9,7 @@ use Rattle.roll.specs.Built.{left_by, state_after, turn_calls, turn_answer, aske
 use Rattle.roll.specs.Rehearsal.{stalling}
 use Rattle.rehearse_run.specs.Rounds.{turned_state, drained_state, state_by_feed, rehearsed_state}
 use Rattle.rehearse_run.specs.Made.{turned_calls, drained_calls, calls_by_feed, rehearsed_calls}
-use Rattle.rehearse_run.proofs.Shrinks.{after-++}
+use Rattle.roll.proofs.Parts.{after-++}
 
 -- a feed that is refused leaves the state
 left_at_refusal : {V : Type 0} (b : State V) (place : ℕ) (c : Contents) (o : Outcome V) (g : FeedFailure) → fed_from place c o ≡ Err g → left_by b o ≡ b

@@ -1,8 +1,6 @@
 -- The turns and the rounds that are left, one fewer after each. Assumes nothing.
 use Rattle.std.proofs.Common.{◌≡◌, ℕ, suc, ◌+◌, ◌-◌, ◌<◌, List, ◌++◌, Ok, Err, Result, sym, refl, ap, ◌∙◌, append_assoc, append-nil, arith}
 use Rattle.fault.specs.declared.ManagerFault.{ManagerFault}
-use Rattle.host.specs.Meaning.{Fixed}
-use Rattle.roll.specs.Tables.{Tables}
 use Rattle.roll.specs.Calls.{Setting, State}
 use Rattle.roll.specs.Built.{state_after, turn_calls, turn_answer}
 use Rattle.roll.specs.Rehearsal as roll
@@ -10,11 +8,6 @@ use Rattle.roll.specs.Rehearsal.{turned, drained, rehearsed}
 use Rattle.rehearse_run.specs.declared.rounds.Next.{Next}
 use Rattle.rehearse_run.specs.declared.rounds.Next.TheVariants.{On, Drain, Stop}
 use Rattle.rehearse_run.specs.Rounds.{rounds, turned_state, drained_state, rehearsed_state, Turned, Goes, Drained}
-
--- settings with the same tables and the same host are the same
-pub same_setting : {V : Type 0} {t u : Tables} {h k : Fixed V} → t ≡ u → h ≡ k → ◌≡◌ {A = Setting V} (record { tables = t; host = h }) (record { tables = u; host = k })
-same_setting {V} {t} {u} {h} {k} p q =
-    ap (λ (x : Tables). record { tables = x; host = h }) p ∙ ap (λ (x : Fixed V). record { tables = u; host = x }) q
 
 -- how many rounds there are
 pub rounds_are : rounds ≡ 131584

@@ -5,6 +5,7 @@ use Rattle.task.specs.declared.Access.{Access}
 use Rattle.host.specs.Meaning.{Fixed}
 use Rattle.layout.specs.Layout.{Contents, submits, finishes}
 use Rattle.order.specs.Steps.{Job, steps}
+use Rattle.roll.proofs.Parts.{after-++}
 use Rattle.roll.specs.Roll.{Standing, waiting, ready, running, Entry, Roll, sits, stand, find, change, without, wake}
 use Rattle.roll.specs.Tables.{submit_fault}
 use Rattle.roll.specs.Calls.{Setting, State, Call, take, step, finish, Outcome, refused, succeeded, give_seat, submitted, begun, begun_at, took, stepped, stepped_at, finished, finished_at, perform}
@@ -115,11 +116,6 @@ module _ {V : Type 0} (m : Setting V) where
   steps_same zero s b = refl
   steps_same (suc k) s b = steps_same k s (left_by b (perform m b (step s))) ∙ stepped_at_same b m.host s (find s b.roll)
 
-  -- calls one list behind another
-  pub after-++ : (b : State V) (cs ds : List Call) → state_after m b (cs ++ ds) ≡ state_after m (state_after m b cs) ds
-  after-++ b [] ds = refl
-  after-++ b (c ∷ cs) ds = after-++ (left_by b (perform m b c)) cs ds
-
   -- an answer with a seat beside it is a refusal exactly where the answer is
   seat_ok : (s : ℕ) (q : Result ℕ ManagerFault) → is_ok (with_seat s q) ≡ true → is_ok q ≡ true
   seat_ok s (Ok n) p = p
@@ -133,7 +129,7 @@ module _ {V : Type 0} (m : Setting V) where
       let k : ℕ = steps_at (find s r.state.roll) in
       let d : State V = state_after m r.state (times k (step s)) in
       let f = finished_at_one d s (find s d.roll) refl (seat_ok s (finish_answer (perform m d (finish s))) p) in
-      ap (λ (x : State V). suc (length x.roll)) (after-++ r.state (times k (step s)) (finish s ∷ [])) ∙ f ∙ steps_same k s r.state ∙ same
+      ap (λ (x : State V). suc (length x.roll)) (after-++ m r.state (times k (step s)) (finish s ∷ [])) ∙ f ∙ steps_same k s r.state ∙ same
 
   -- a turn takes one task off the roll
   pub turn_shrinks : (b : State V) → is_ok (turn_answer m b) ≡ true → suc (length (state_after m b (turn_calls m b)).roll) ≡ length b.roll

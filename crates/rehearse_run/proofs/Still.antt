@@ -10,7 +10,8 @@ use Rattle.roll.specs.Tables.{submit_fault}
 use Rattle.roll.specs.Calls.{Setting, State, Call, submit, take, step, finish, Outcome, refused, succeeded, give_seat, submitted, begun, begun_at, took, stepped, stepped_at, finished, finished_at, perform}
 use Rattle.roll.specs.Built.{left_by, state_after, times, steps_at, turn_after, turn_calls, with_seat, finish_answer, turn_from, turn_answer, asked, feed_calls}
 use Rattle.roll.specs.History.{works}
-use Rattle.rehearse_run.proofs.Shrinks.{not_ok, after-++}
+use Rattle.roll.proofs.Parts.{after-++}
+use Rattle.rehearse_run.proofs.Shrinks.{not_ok}
 
 -- a standing that is not running, and a roll of such
 abbrev pub Still : Standing → Type 0

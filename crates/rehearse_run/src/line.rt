@@ -6,6 +6,7 @@ use std::alloc::{AllocError, Global};
 use std::fmt;
 
 // A submission was accepted on a seat; the task in a seat has run; a message was refused, by its number; no task is unfinished.
+// Kept: a line is what is printed, and of a refusal that is the number alone.
 #[derive(Clone, Copy, PartialEq, Eq, Debug)]
 pub enum Line {
     Sub { seat: u16 },

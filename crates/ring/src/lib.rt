@@ -14,6 +14,7 @@ use queue::Window;
 const CAPACITY: usize = 256;
 
 // The elements stand in those of the slots that are in use.
+// Kept: a ring has fixed memory of its own and is copied without asking for any; the rings of the libraries are on the heap.
 #[derive(Copy)]
 pub struct Ring<T: Copy> {
     slots: [T; CAPACITY],

@@ -7,3 +7,4 @@ mod Changed
 mod Opens
 mod Invariant
 pub mod Holds
+pub mod Parts

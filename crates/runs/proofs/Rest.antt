@@ -4,19 +4,12 @@ use Rattle.std.proofs.Common.{◌≡◌, ℕ, ◌+◌, ◌<◌, ◌≤◌, List,
 use lib.Seq.{append_snoc}
 use Rattle.std.proofs.lemmas.List.{map-append, drop_all}
 use Rattle.fault.specs.declared.ManagerFault.{ManagerFault}
-use Rattle.host.specs.Meaning.{Fixed}
-use Rattle.roll.specs.Tables.{Tables}
 use Rattle.roll.specs.Calls as roll
 use Rattle.roll.specs.Calls.{Setting, State, perform}
 use Rattle.roll.specs.Built.{left_by, state_after}
 use Rattle.runs.specs.declared.calls.Call.{Call}
 use Rattle.runs.specs.declared.calls.Answer.{Answer}
 use Rattle.runs.specs.Told.{call_of, calls_of, told, all_told, answer_to, answers_to}
-
--- with the same tables and the same host the setting is the same
-pub same_setting : {V : Type 0} {y z : Tables} {f h : Fixed V} → y ≡ z → f ≡ h → ◌≡◌ {A = Setting V} (record { tables = y; host = f }) (record { tables = z; host = h })
-same_setting {V} {y} {z} {f} {h} p q =
-    ap (λ (t : Tables). record { tables = t; host = f }) p ∙ ap (λ (t : Fixed V). record { tables = z; host = t }) q
 
 -- the call at i is the first of those that are left
 rest : (cs : List Call) (i : ℕ) (d : Call) → i < length cs → calls_of (drop i cs) ≡ call_of (get_or cs i d) ∷ calls_of (drop (i + 1) cs)

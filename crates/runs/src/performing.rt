@@ -12,6 +12,7 @@ use host::Host;
 use manager::Manager;
 
 // Makes the call, whichever it is. A refusal changes nothing.
+// Kept: what stays (fixed, tables, refused) is said of each function by itself, so that a reader of one needs no other.
 pub fn perform<H: Host>(
     manager: &mut Manager,
     host: &mut H,

@@ -9,6 +9,7 @@ ghost use Rattle.std.specs.Prelude.{IfOk};
 use one_at_a_time::{Journal, run_stream};
 use stamp_host::StampHost;
 use std::alloc::{AllocError, Global};
+pub use text::StampsLeft;
 
 // How many bytes of a stream are looked at.
 pub const MAX_INPUT: usize = 65_536;

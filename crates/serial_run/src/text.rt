@@ -3,6 +3,7 @@ use crate::{MAX_INPUT, Report};
 use fault::{Cause, StreamFault};
 use host::ReadBack;
 use one_at_a_time::{End, Entry, TaskRun};
+use stamp_host::StampHost;
 use std::fmt;
 use task::{Access, Task};
 
@@ -18,7 +19,8 @@ impl fmt::Display for Report {
             )?;
         }
         write_end(f, self.journal.place, &self.journal.end)?;
-        write_stamps(f, self)
+        let stamps = StampsLeft { host: &self.host };
+        write!(f, "{stamps}")
     }
 }
 
@@ -88,13 +90,20 @@ fn write_end<W: fmt::Write>(f: &mut fmt::Formatter<W>, place: usize, end: &End) 
     }
 }
 
-// Each stamp that is not zero.
-fn write_stamps<W: fmt::Write>(f: &mut fmt::Formatter<W>, report: &Report) -> fmt::Result {
-    let stamps = (0..report.host.len() as u64)
-        .filter_map(|address| report.host.value_at(address).map(|value| (address, value)))
-        .filter(|(_, value)| *value != 0);
-    for (address, value) in stamps {
-        writeln!(f, "stamp {address} = {value}")?;
+// The stamps of a host that are not zero, a line each.
+#[derive(Clone, Copy)]
+pub struct StampsLeft<'a> {
+    pub host: &'a StampHost,
+}
+
+impl fmt::Display for StampsLeft<'_> {
+    fn fmt<W: fmt::Write>(&self, f: &mut fmt::Formatter<W>) -> fmt::Result {
+        let stamps = (0..self.host.len() as u64)
+            .filter_map(|address| self.host.value_at(address).map(|value| (address, value)))
+            .filter(|(_, value)| *value != 0);
+        for (address, value) in stamps {
+            writeln!(f, "stamp {address} = {value}")?;
+        }
+        Ok(())
     }
-    Ok(())
 }

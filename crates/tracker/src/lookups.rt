@@ -36,6 +36,7 @@ impl AddressTable {
     }
 
     // A way of the address's set that is not live.
+    // Kept: this and `find` share the library's chain and differ in its test; a function for it would take the test and what it promises.
     fn vacancy(&self, address: u64) -> Option<Way>
         ensures { MatchOption result (Full self.now address) (λ w. Free self.now address w.number) }
     {

@@ -15,6 +15,7 @@ use tracker::Tracker;
 
 impl Inner {
     // The seat that a task with these accesses gets, or why the tables do not take it.
+    // Kept: `Inner` is a plain struct by a rule of the project, and between the parts of a call `Sound` does not hold; so parts require it.
     pub(crate) fn seat_for(&self, accesses: &[Access]) -> Result<u8, TableFault>
         requires sound { Sound self.now }
         requires few { length accesses.now ≤ 15 }

@@ -17,6 +17,7 @@ use task::{Access, Task};
 impl Manager {
     // Accepts a task, which gets the first free seat and joins the end of the roll; it is ready if no earlier task conflicts with it.
     // Answers the seat.
+    // Kept: what stays (fixed, tables, refused) is said of each call by itself, so that a reader of one call needs no other.
     pub fn submit<H: Host>(
         &mut self,
         host: &H,

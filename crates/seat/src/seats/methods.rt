@@ -69,6 +69,7 @@ impl Seat {
     }
 
     // Puts a task into a free seat, where it waits if an earlier one blocks it; a seat that is not free stays as it is.
+    // Kept: it answers what `on` answers, which is a bool.
     pub fn occupy(&mut self, task: Task, blocked: bool) -> bool
         ensures answer { result ≡ is_free_in self.old.standing }
         ensures standing { self.new.standing ≡ or_else (moved (accesses_of task) self.old.standing (Event.Entered blocked)) self.old.standing }

@@ -1,7 +1,8 @@
 use Rattle.std.proofs.Common.{◌≡◌, true, false, is_ok, Ok, Err, Result, sym, ◌∙◌, subst, arith}
 use Rattle.roll.specs.Calls.{Setting}
 use Rattle.manager.specs.Answers.{state_with, setting_with}
-use Rattle.drive.proofs.Running.{same_setting, all_done, one_fewer, same_done, done_here}
+use Rattle.roll.proofs.Parts.{same_setting}
+use Rattle.drive.proofs.Running.{all_done, one_fewer, same_done, done_here}
 use Rattle.drive.proofs.turns.run_steps.Goals as goal
 
 -- a step that succeeded, and one that was refused

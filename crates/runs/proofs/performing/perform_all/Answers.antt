@@ -4,7 +4,8 @@ use Rattle.manager.specs.Answers.{state_with, setting_with}
 use Rattle.runs.specs.declared.calls.Call.{Call}
 use Rattle.runs.specs.declared.calls.Call.TheVariants.{Submit}
 use Rattle.runs.specs.Told.{calls_of, all_told, answers_to}
-use Rattle.runs.proofs.Rest.{same_setting, answers_more, state_more, answers_end, state_end}
+use Rattle.roll.proofs.Parts.{same_setting}
+use Rattle.runs.proofs.Rest.{answers_more, state_more, answers_end, state_end}
 use Rattle.runs.proofs.performing.perform_all.Goals as goal
 
 -- what stands beyond the end of the calls

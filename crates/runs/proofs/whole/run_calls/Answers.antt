@@ -7,7 +7,7 @@ use Rattle.manager.specs.Answers.{state_with, setting_with}
 use Rattle.runs.specs.declared.calls.Answer.{Answer}
 use Rattle.runs.specs.Told.{calls_of, all_told, answers_to}
 use Rattle.runs.specs.Obeys.{history, Lawful}
-use Rattle.runs.proofs.Rest.{same_setting}
+use Rattle.roll.proofs.Parts.{same_setting}
 use Rattle.runs.proofs.whole.run_calls.Goals as goal
 
 module _ {V : Type 0} (m n : Setting V) (w : Values V) (b : State V) (cs : List Call) (same : n ≡ m) (new : b ≡ made m w) where

@@ -7,7 +7,7 @@ use Rattle.stamp_host.specs.Stamps.{fixed_of, values_of}
 use Rattle.rehearse_run.specs.declared.rounds.Next.{Next}
 use Rattle.rehearse_run.specs.Rounds.{lines_of, Answered, Goes}
 use Rattle.rehearse_run.specs.Session.{setting_at, state_at, lines_at}
-use Rattle.rehearse_run.proofs.Looping.{same_setting}
+use Rattle.roll.proofs.Parts.{same_setting}
 use Rattle.rehearse_run.proofs.Going.{made_more, fed_not, place_stays, goes_fed, goes_refused}
 use Rattle.rehearse_run.proofs.rounds.Session.advance.Goals as goal
 

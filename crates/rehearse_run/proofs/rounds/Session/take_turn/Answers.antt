@@ -1,7 +1,7 @@
 use Rattle.std.proofs.Common.{vec_items}
 use Rattle.roll.specs.Built.{turn_answer}
 use Rattle.rehearse_run.specs.Session.{setting_at, state_at}
-use Rattle.rehearse_run.proofs.Looping.{same_setting}
+use Rattle.roll.proofs.Parts.{same_setting}
 use Rattle.rehearse_run.proofs.Noting.{turned_on, turned_off}
 use Rattle.rehearse_run.proofs.rounds.Session.take_turn.Goals as goal
 
