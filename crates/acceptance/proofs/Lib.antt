@@ -1,4 +1,4 @@
 mod Closing
 pub mod Laws
-mod Lists
+pub mod Lists
 mod Places

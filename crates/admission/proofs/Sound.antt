@@ -13,7 +13,7 @@ not_here true i r e = absurd cc
 not_here false i r e = (refl, e)
 
 -- so it fails at each of them
-nowhere : (p : ℕ → Bool) (n i : ℕ) → first_from p i n ≡ None → (k : ℕ) → k < n → p (i + k) ≡ false
+pub nowhere : (p : ℕ → Bool) (n i : ℕ) → first_from p i n ≡ None → (k : ℕ) → k < n → p (i + k) ≡ false
 nowhere p zero i e k lt = absurd (not-suc-le-zero lt)
 nowhere p (suc n) i e zero lt = let z : i + 0 ≡ i = omega arith in ap p z ∙ (not_here (p i) i (first_from p (suc i) n) e).0
 nowhere p (suc n) i e (suc k) lt =
@@ -34,7 +34,7 @@ no_first : (b : Bool) (fault : ManagerFault) (next : Option ManagerFault) → co
 no_first true fault next e = absurd cc
 no_first false fault next e = e
 
-no_fault : (r : Option ℕ) (fault : ℕ → ManagerFault) (next : Option ManagerFault) → fault_at r fault next ≡ None → (r ≡ None) × (next ≡ None)
+pub no_fault : (r : Option ℕ) (fault : ℕ → ManagerFault) (next : Option ManagerFault) → fault_at r fault next ≡ None → (r ≡ None) × (next ≡ None)
 no_fault None fault next e = (refl, e)
 no_fault (Some i) fault next e = absurd cc
 

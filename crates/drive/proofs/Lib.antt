@@ -1,4 +1,4 @@
 pub mod Beside
-mod Running
+pub mod Running
 mod Turning
 mod Asking

@@ -72,7 +72,7 @@ keep_few true x rest = omega arith
 keep_few false x rest = omega arith
 
 -- the accesses that pass the test are at most as many as all
-numbered_few : (p : Access → Bool) (i : ℕ) (xs : List Access) → length (numbered p i xs) ≤ length xs
+pub numbered_few : (p : Access → Bool) (i : ℕ) (xs : List Access) → length (numbered p i xs) ≤ length xs
 numbered_few p i [] = omega arith
 numbered_few p i (x ∷ xs) = omega (arith, keep_few (p x) (record { number = i; address = x.address }) (numbered p (suc i) xs), numbered_few p (suc i) xs)
 

@@ -56,7 +56,7 @@ rightly_change st k w [] post ds j = (w ∙ j.0, rightly_earlier (k ∷ ds) (sta
 rightly_change st k w (e ∷ pre) post ds j = (j.0, rightly_change st k w pre post (e ∷ ds) j.1)
 
 -- three tests in another order
-or_swap : (a b c : Bool) → ((a || b) || c) ≡ (b || (a || c))
+pub or_swap : (a b c : Bool) → ((a || b) || c) ≡ (b || (a || c))
 or_swap true true c = refl
 or_swap true false c = refl
 or_swap false b c = refl

@@ -1,5 +1,5 @@
-mod Split
-mod Keeps
+pub mod Split
+pub mod Keeps
 mod Owed
 mod ByCall
 mod Fits
