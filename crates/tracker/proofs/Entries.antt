@@ -1,16 +1,13 @@
 -- What holds of every entry of a roll, entry by entry and by the ways of cutting the roll at an entry. Assumes nothing.
-use Rattle.std.proofs.Common.{◌≡◌, ℕ, true, false, eqb, ◌⊎◌, List, [], ◌∷◌, ◌++◌, sym, refl, ap, subst, inl, inr, ⊎_elim}
-use Rattle.std.proofs.lemmas.Bool.{or_parts, or_from, cases_Bool, ne_eqb, eqb-false, eqb-true}
+use Rattle.std.proofs.Common.{◌≡◌, ℕ, true, false, eqb, ◌⊎◌, List, [], ◌∷◌, ◌++◌, refl, ap, subst, inl, inr, ⊎_elim}
+use Rattle.std.specs.List.{AllByRecursion as All}
+use Rattle.std.proofs.lemmas.Bool.{or_parts, or_from, cases_Bool, eqb-true}
 use Rattle.task.specs.declared.Access.{Access}
 use Rattle.admission.specs.Admission.{occurs}
+use Rattle.order.proofs.Update.{eqb_flip}
 use Rattle.roll.specs.Roll.{Entry, Roll}
 use Rattle.claims.specs.Queues.{Apart, AbsentSeat}
 use Rattle.tracker.specs.Tracked.{repeats, taken, doubled}
-
--- each entry has the property
-abbrev pub All : (Entry → Type 0) → Roll → Type 0
-All P [] = Unit {0}
-All P (e ∷ es) = P e × All P es
 
 -- wherever the roll is cut, the entry there has the property
 abbrev pub Cut : (Entry → Type 0) → Roll → Type 0
@@ -34,26 +31,6 @@ cut_of_all P v h pre post e s = all_last P pre post e (subst (All P) s h)
 pub all-++ : (P : Entry → Type 0) (v u : Roll) → All P v → All P u → All P (v ++ u)
 all-++ P [] u h k = k
 all-++ P (e ∷ v) u h k = (h.0, all-++ P v u h.1 k)
-
--- the first of them
-pub all_left : (P : Entry → Type 0) (v u : Roll) → All P (v ++ u) → All P v
-all_left P [] u h = tt
-all_left P (e ∷ v) u h = (h.0, all_left P v u h.1)
-
--- the second of them
-pub all_right : (P : Entry → Type 0) (v u : Roll) → All P (v ++ u) → All P u
-all_right P [] u h = h
-all_right P (e ∷ v) u h = all_right P v u h.1
-
--- another property, entry by entry
-pub all_map : (P Q : Entry → Type 0) (v : Roll) → ((e : Entry) → P e → Q e) → All P v → All Q v
-all_map P Q [] f h = tt
-all_map P Q (e ∷ v) f h = (f e h.0, all_map P Q v f h.1)
-
--- two properties at once
-pub all_both : (P Q : Entry → Type 0) (v : Roll) → All P v → All Q v → All (λ e. P e × Q e) v
-all_both P Q [] h k = tt
-all_both P Q (e ∷ v) h k = ((h.0, k.0), all_both P Q v h.1 k.1)
 
 -- no address twice, as a fact and as a test
 pub apart_of : (xs : List Access) → repeats xs ≡ false → Apart xs
@@ -120,16 +97,12 @@ pub doubled_of : (v : Roll) → Distinct v → doubled v ≡ false
 doubled_of [] h = refl
 doubled_of (e ∷ v) h = or_from (taken e.job.seat v) (doubled v) (taken_of e.job.seat v h.0) (doubled_of v h.1)
 
--- another seat, the other way round
-eqb_turn : (a b : ℕ) → eqb a b ≡ false → eqb b a ≡ false
-eqb_turn a b h = ne_eqb b a (λ e. eqb-false a b h (sym e))
-
 -- around an entry nobody has its seat
 pub apart_before : (pre post : Roll) (e : Entry) → Distinct (pre ++ (e ∷ post)) → AbsentSeat e.job.seat pre
 apart_before [] post e h = tt
 apart_before (x ∷ pre) post e h =
     let k = absent_right x.job.seat pre (e ∷ post) h.0 in
-    (eqb_turn e.job.seat x.job.seat k.0, apart_before pre post e h.1)
+    (eqb_flip e.job.seat x.job.seat k.0, apart_before pre post e h.1)
 
 -- nor after it
 pub apart_after : (pre post : Roll) (e : Entry) → Distinct (pre ++ (e ∷ post)) → AbsentSeat e.job.seat post
@@ -140,7 +113,7 @@ apart_after (x ∷ pre) post e h = apart_after pre post e h.1
 pub distinct_more : (v : Roll) (e : Entry) → Distinct v → AbsentSeat e.job.seat v → Distinct (v ++ (e ∷ []))
 distinct_more [] e h k = (tt, tt)
 distinct_more (x ∷ v) e h k =
-    (absent-++ x.job.seat v (e ∷ []) h.0 (eqb_turn x.job.seat e.job.seat k.0, tt), distinct_more v e h.1 k.1)
+    (absent-++ x.job.seat v (e ∷ []) h.0 (eqb_flip x.job.seat e.job.seat k.0, tt), distinct_more v e h.1 k.1)
 
 -- an entry with other accesses
 pub distinct_same : (pre post : Roll) (e f : Entry) → e.job.seat ≡ f.job.seat → Distinct (pre ++ (e ∷ post)) → Distinct (pre ++ (f ∷ post))

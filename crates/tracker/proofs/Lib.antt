@@ -6,6 +6,5 @@ pub mod Room
 pub mod Draining
 pub mod Parting
 mod Crowds
-pub mod Propositions
 mod Empty
 pub mod Laws

@@ -1,9 +1,11 @@
 -- A task whose accesses leave the tables one by one. Assumes nothing.
 use Rattle.std.proofs.Common.{◌≡◌, ℕ, zero, suc, ◌%◌, ◌≤◌, true, false, not, ◌&&◌, ◌||◌, eqb, ltb, List, [], ◌∷◌, ◌++◌, length, drop, sym, refl, ap, ◌∙◌, subst, ⊎_elim, arith, length-append}
+use Rattle.std.specs.List.{AllByRecursion as All}
 use Rattle.std.proofs.lemmas.Bool.{cases_Bool, cases_eq, eqb-true, ne_eqb, both_ways}
 use Rattle.task.specs.declared.Access.{Access}
 use Rattle.admission.specs.Admission.{occurs}
 use Rattle.host.specs.Meaning.{update}
+use Rattle.order.proofs.Opens.{all_front, all_back, all_without, all_both}
 use Rattle.roll.specs.Roll.{Entry, Roll}
 use Rattle.roll.specs.Tables.{tally, live}
 use Rattle.claims.specs.Claims.{State, claims, released}
@@ -19,7 +21,7 @@ use Rattle.tracker.specs.Table.{Table}
 use Rattle.tracker.specs.Tracked.{Tracked, sized, blocked_at}
 use Rattle.tracker.specs.Departures.{Leaves, Departed}
 use Rattle.tracker.specs.declared.tracker.Tracker.{Tracker}
-use Rattle.tracker.proofs.Entries.{All, cut_of_all, all_last, all-++, all_left, all_right, all_map, all_both, Distinct, distinct_of, apart_before, apart_after, distinct_same, distinct_gone, Seated, seated_or}
+use Rattle.tracker.proofs.Entries.{cut_of_all, all_last, all-++, Distinct, distinct_of, apart_before, apart_after, distinct_same, distinct_gone, Seated, seated_or}
 use Rattle.tracker.proofs.Tracking.{FitsIn, each, Lonely, lonely, made, all_apart}
 
 -- without the first accesses the rest is not blocked either
@@ -76,15 +78,15 @@ tracked_part t t' pre post s x ys k free did =
       few = (let z = size_most V a aparts in omega (arith, z, few));
       owed = λ u low. owed t V a k u;
     }) in
-    let P : Entry → Type 0 = λ e. FitsIn t M e × Lonely V e in
-    let both : All P V = all_both (FitsIn t M) (Lonely V) V all (lonely V d) in
-    let step : (e : Entry) → P e → FitsIn t' M' e =
-    λ e h. record {
-      count = count_released M a e.job.seat e.job.accesses (blocked_at t e.job.seat) (blocked_at t' e.job.seat) h.0.apart (h.1 a) (out.counts e.job.seat h.0.low) h.0.count;
-      low = h.0.low;
-      short = h.0.short;
-      apart = h.0.apart;
+    let step : (e : Entry) → FitsIn t M e → Lonely V e → FitsIn t' M' e =
+    λ e h alone. record {
+      count = count_released M a e.job.seat e.job.accesses (blocked_at t e.job.seat) (blocked_at t' e.job.seat) h.apart (alone a) (out.counts e.job.seat h.low) h.count;
+      low = h.low;
+      short = h.short;
+      apart = h.apart;
     } in
+    let moved : (v : Roll) → All (FitsIn t M) v → All (Lonely V) v → All (FitsIn t' M') v = all_both (FitsIn t M) (Lonely V) (FitsIn t' M') step in
+    let alone = lonely V d in
     let none : blocked_at t s ≡ 0 = mine.count ∙ stuck_hits pre post s (x ∷ ys) (apart_before pre post (bare s (x ∷ ys)) d) (apart_after pre post (bare s (x ∷ ys)) d) mine.apart ∙ eqb-true (hit_count pre (x ∷ ys)) 0 (hit_zero pre (x ∷ ys) ∙ ap not free) in
     let c = mine.count in
     let waits : claims s (M a).waiting ≡ 0 = omega (arith, none, c) in
@@ -96,9 +98,9 @@ tracked_part t t' pre post s x ys k free did =
       short = omega (arith, short);
       apart = mine.apart.1;
     } in
-    let after = all_right P pre (bare s (x ∷ ys) ∷ post) both in
     made t' V' M' m out.table
-    (all-++ (FitsIn t' M') pre (bare s ys ∷ post) (all_map P (FitsIn t' M') pre step (all_left P pre (bare s (x ∷ ys) ∷ post) both)) (own, all_map P (FitsIn t' M') post step after.1))
+    (all-++ (FitsIn t' M') pre (bare s ys ∷ post) (moved pre (all_front (FitsIn t M) pre (bare s (x ∷ ys) ∷ post) all) (all_front (Lonely V) pre (bare s (x ∷ ys) ∷ post) alone))
+    (own, moved post (all_back (FitsIn t M) pre (bare s (x ∷ ys) ∷ post) all).1 (all_back (Lonely V) pre (bare s (x ∷ ys) ∷ post) alone).1))
     (let u = used_frees pre post s x ys aparts free in let o = k.versions in let q = out.versions in omega (arith, u, o, q))
     (λ z zl.
     let o = k.addresses z zl in
@@ -119,7 +121,7 @@ tracked_gone t pre post s k =
     let all = each t V k in
     let few = k.few in
     made t (pre ++ post) M (sym (map_gone pre post s)) k.table
-    (all-++ (FitsIn t M) pre post (all_left (FitsIn t M) pre (bare s [] ∷ post) all) (all_right (FitsIn t M) pre (bare s [] ∷ post) all).1)
+    (all_without (FitsIn t M) pre post (bare s []) all)
     (k.versions ∙ used_gone [] pre post s)
     (λ z zl. k.addresses z zl ∙ occupied_gone (sized 0 0) z [] pre post s)
     (distinct_gone pre post (bare s []) (distinct_of V k.seats))

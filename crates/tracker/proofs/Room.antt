@@ -1,12 +1,12 @@
 -- What a submission that does not stall leaves room for. Assumes nothing.
-use Rattle.std.proofs.Common.{◌≡◌, ℕ, zero, suc, ◌+◌, ◌-◌, ◌%◌, ◌<◌, ◌≤◌, Bool, true, false, cond, not, ◌&&◌, ◌||◌, eqb, ltb, List, [], ◌∷◌, length, get_or, take, Some, None, Option, sym, refl, ap, ◌∙◌, ⊎_elim, arith}
-use Rattle.std.proofs.lemmas.Bool.{cases_Bool, cases_eq, eq-eqb, ltb-false, cond-true, cond-false}
+use Rattle.std.proofs.Common.{◌≡◌, ℕ, zero, suc, ◌+◌, ◌-◌, ◌%◌, ◌<◌, ◌≤◌, Bool, true, false, cond, not, ◌&&◌, ◌||◌, eqb, ltb, List, [], ◌∷◌, length, get_or, take, Some, None, Option, refl, ap, ◌∙◌, arith}
+use Rattle.std.proofs.lemmas.Bool.{eq-eqb, ltb-false}
 use Rattle.std.proofs.lemmas.List.{take_more}
 use Rattle.fault.specs.declared.TableFault.TheVariants.{TooFewVersions}
 use Rattle.task.specs.declared.Access.{Access}
 use Rattle.task.specs.declared.Direction.TheVariants.{In}
 use Rattle.task.specs.Access.{writes}
-use Rattle.admission.specs.Admission.{first_from}
+use Rattle.admission.proofs.Sound.{nowhere}
 use Rattle.roll.specs.Roll.{Roll}
 use Rattle.roll.specs.Tables.{Tables, tally, used, needs, live, fresh, occupied, missing, crowded, full_set, stall, ways}
 use Rattle.claims.specs.Queues.{bare}
@@ -32,20 +32,11 @@ occupied_sized n set e (x ∷ v) =
     let q = occupied_sized n set (x ∷ e) v in
     omega (arith, p, q)
 
--- where no number passes the test, none does
-pub first_none : (p : ℕ → Bool) (i n : ℕ) → first_from p i n ≡ None → (z : ℕ) → i ≤ z → z < i + n → p z ≡ false
-first_none p i zero h z lo hi = absurd (omega arith)
-first_none p i (suc n) h z lo hi = ⊎_elim
-    (λ (y : p i ≡ true). let e : ◌≡◌ {A = Option ℕ} (Some i) None = sym (cond-true (p i) (Some i) (first_from p (suc i) n) y) ∙ h in cc)
-    (λ (no : p i ≡ false). ⊎_elim
-    (λ (e : z ≡ i). ap p e ∙ no)
-    (λ ne. first_none p (suc i) n (sym (cond-false (p i) (Some i) (first_from p (suc i) n) no) ∙ h) z (omega (arith, lo, ne)) (omega arith))
-    (cases_eq z i))
-    (cases_Bool (p i))
-
 -- a set that is not crowded
 pub not_crowded : (count : ℕ → ℕ) → crowded count ≡ None → (z : ℕ) → z < 64 → count z ≤ 8
-not_crowded count h z lt = let k : (ltb 8 (count z) ≡ false) = first_none (λ set. ltb ways (count set)) 0 64 h z (omega arith) (omega arith) in ltb-false 8 (count z) k
+not_crowded count h z lt =
+    let e : z ≡ 0 + z = omega arith in
+    ltb-false 8 (count z) (ap (λ n. ltb 8 (count n)) e ∙ nowhere (λ set. ltb ways (count set)) 64 0 h z lt)
 
 -- a submission that does not stall: there are enough versions, and room in each set
 pub no_stall : (n : ℕ) (v : Roll) (xs : List Access) → stall (sized 0 n) v (0 ∷ []) xs ≡ None →

@@ -1,12 +1,15 @@
 -- The tables stand for a roll: what they know of each entry, and what a task that takes a seat and joins does. Assumes nothing.
 use Rattle.std.proofs.Common.{◌≡◌, ℕ, ◌+◌, ◌%◌, ◌<◌, ◌≤◌, Bool, true, false, not, ◌&&◌, ◌||◌, eqb, ltb, List, [], ◌∷◌, ◌++◌, length, sym, refl, ap, ◌∙◌, subst, arith, length-append}
 use mathlib.Core.Path.{fun_ext}
+use Rattle.std.specs.List.{AllByRecursion as All}
 use Rattle.std.proofs.Math.Bool.{not-not}
-use Rattle.std.proofs.lemmas.Bool.{eq-eqb, or_parts, or_from, cond_both, eqb-false, ne_eqb}
+use Rattle.std.proofs.lemmas.Bool.{eq-eqb, or_parts, or_from, cond_both, eqb-false}
 use Rattle.task.specs.declared.Access.{Access}
 use Rattle.task.specs.Access.{writes}
 use Rattle.admission.specs.Admission.{occurs}
 use Rattle.host.specs.Meaning.{update}
+use Rattle.order.proofs.Update.{eqb_flip}
+use Rattle.order.proofs.Opens.{all_front, all_both}
 use Rattle.roll.specs.Roll.{Entry, Roll}
 use Rattle.roll.specs.Tables.{Tables, tally, used, needs, live, fresh, occupied}
 use Rattle.claims.specs.declared.Claim.{Claim}
@@ -23,7 +26,7 @@ use Rattle.tracker.specs.declared.ways.AddressTable.{AddressTable}
 use Rattle.tracker.specs.declared.ways.Claimed.{Claimed}
 use Rattle.tracker.specs.declared.tracker.Tracker.{Tracker}
 use Rattle.tracker.proofs.Tables.{tally_most}
-use Rattle.tracker.proofs.Entries.{All, Cut, all_of_cut, cut_of_all, all_last, all-++, all_left, all_map, all_both, apart_of, repeats_of, absent_all, Distinct, distinct_of, doubled_of, apart_before, apart_after, distinct_more, distinct_same}
+use Rattle.tracker.proofs.Entries.{Cut, all_of_cut, cut_of_all, all_last, all-++, apart_of, repeats_of, absent_all, Distinct, distinct_of, doubled_of, apart_before, apart_after, distinct_more, distinct_same}
 
 -- what the tables know of an entry, by the map of addresses
 pub record FitsIn (t : Tracker) (M : ℕ → State) (e : Entry) : Type 0 where
@@ -85,9 +88,9 @@ tracked_start t t' v s k absent few low table versions others own =
     let M = map_of v in
     let n = length_plus v s [] in
     let before : All (FitsIn t' M) v =
-    all_map (λ e. FitsIn t M e × (eqb e.job.seat s ≡ false)) (FitsIn t' M) v
-    (λ e h. record { count = others e.job.seat (eqb-false e.job.seat s h.1) ∙ h.0.count; low = h.0.low; short = h.0.short; apart = h.0.apart })
-    (all_both (FitsIn t M) (λ e. eqb e.job.seat s ≡ false) v (each t v k) (absent_all s v absent)) in
+    all_both (FitsIn t M) (λ e. eqb e.job.seat s ≡ false) (FitsIn t' M)
+    (λ e h ne. record { count = others e.job.seat (eqb-false e.job.seat s ne) ∙ h.count; low = h.low; short = h.short; apart = h.apart })
+    v (each t v k) (absent_all s v absent) in
     made t' (plus v s []) M m (subst (λ (w : AddressTable). Table w M) (sym table) k.table)
     (all-++ (FitsIn t' M) v (bare s [] ∷ []) before (record { count = own; low = low; short = omega arith; apart = tt }, tt))
     (let u = used_enter v (bare s []) in let o = k.versions in omega (arith, versions, u, o))
@@ -105,7 +108,7 @@ pub apart_more : (ys : List Access) (x : Access) → Apart ys → occurs x.addre
 apart_more [] x d h = (refl, tt)
 apart_more (y ∷ ys) x d h =
     let f = or_parts (eqb y.address x.address) (occurs x.address ys) h in
-    let n : eqb x.address y.address ≡ false = ne_eqb x.address y.address (λ e. eqb-false y.address x.address f.0 (sym e)) in
+    let n : eqb x.address y.address ≡ false = eqb_flip y.address x.address f.0 in
     (occurs_more y.address ys x d.0 n, apart_more ys x d.1 f.1)
 
 -- an address that does not occur in the last task is live by the others
@@ -152,7 +155,7 @@ tracked_join t t' v s ys x r version k out short room fits did isv versions coun
     let d : Distinct V = distinct_of V k.seats in
     let absent : AbsentSeat s v = apart_before v [] (bare s ys) d in
     let all = each t V k in
-    let old : All (FitsIn t M) v = all_left (FitsIn t M) v (bare s ys ∷ []) all in
+    let old : All (FitsIn t M) v = all_front (FitsIn t M) v (bare s ys ∷ []) all in
     let mine : FitsIn t M (bare s ys) = all_last (FitsIn t M) v [] (bare s ys) all in
     let lv : ltb 0 (M a).holders ≡ live v a = live_held V a ∙ live_plus v s ys a out in
     let n = length_plus v s ys in
@@ -177,15 +180,15 @@ tracked_join t t' v s ys x r version k out short room fits did isv versions coun
     let q : blocked_at t' s ≡ hit_count v (ys ++ (x ∷ [])) = omega (arith, e, b, h, hit, was) in
     q ∙ sym (stuck_hits v [] s (ys ++ (x ∷ [])) absent tt d') ∙ ap (λ (N : ℕ → State). stuck_of N s (ys ++ (x ∷ []))) m) in
     let before : All (FitsIn t' M') v =
-    all_map (λ e. FitsIn t M e × (eqb e.job.seat s ≡ false)) (FitsIn t' M') v
-    (λ e h.
-    let no : eqb s e.job.seat ≡ false = ne_eqb s e.job.seat (λ q. eqb-false e.job.seat s h.1 (sym q)) in
+    all_both (FitsIn t M) (λ e. eqb e.job.seat s ≡ false) (FitsIn t' M')
+    (λ e h ne.
+    let no : eqb s e.job.seat ≡ false = eqb_flip e.job.seat s ne in
     let same = stuck_same M a st e.job.seat e.job.accesses (joined_claims (M a) (claim s x) e.job.seat no) in
     let b : tally (eqb s e.job.seat && not r.holds) ≡ 0 = ap (λ q. tally (q && not r.holds)) no in
     let e' = now e.job.seat in
-    let c = h.0.count in
-    record { count = omega (arith, same, b, e', c); low = h.0.low; short = h.0.short; apart = h.0.apart })
-    (all_both (FitsIn t M) (λ e. eqb e.job.seat s ≡ false) v old (absent_all s v absent)) in
+    let c = h.count in
+    record { count = omega (arith, same, b, e', c); low = h.low; short = h.short; apart = h.apart })
+    v old (absent_all s v absent) in
     let long = length-append ys (x ∷ []) in
     made t' V' M' m j.table
     (all-++ (FitsIn t' M') v (bare s (ys ++ (x ∷ [])) ∷ []) before (record { count = own; low = mine.low; short = omega (arith, long, short); apart = d' }, tt))
