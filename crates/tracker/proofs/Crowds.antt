@@ -4,11 +4,16 @@
 --   crowded_adds                                 the lowest crowded set, when one count grows
 --   needs_more, fresh_more and so on             a count along a list, with what is left of the list
 --   stall_short, stall_full                      too few versions; the lowest set without room
-use Rattle.std.proofs.Common.{◌≡◌, ℕ, zero, suc, ◌+◌, ◌-◌, ◌%◌, ◌<◌, ◌≤◌, min, Bool, true, false, cond, not, ◌&&◌, ◌||◌, eqb, ltb, List, [], ◌∷◌, length, get_or, drop, is_some, Some, None, Option, sym, refl, ap, ◌∙◌, ap₂, ⊎_elim, arith}
+use Rattle.std.proofs.Common.{◌≡◌, ℕ, zero, suc, ◌+◌, ◌-◌, ◌%◌, ◌<◌, ◌≤◌, min, Bool, true, false, cond, not, ◌&&◌, ◌||◌, eqb, ltb, List, [], ◌∷◌, length, get_or, drop, is_some, ◌++◌, map, subst, Some, None, Option, sym, refl, ap, ◌∙◌, ap₂, ⊎_elim, arith}
 use Rattle.std.proofs.Math.Bool.{and-true}
-use Rattle.std.specs.Option.{option_map_or}
-use Rattle.std.proofs.lemmas.Bool.{cases_Bool, cases_eq, both_ways, lt-ltb, le-ltb, ltb-false, cond_both, cond-true, cond-false, ne_eqb}
-use Rattle.std.proofs.lemmas.List.{at_drop_more, at_drop_all}
+use denote.Ref.{Bor}
+use denote.Param.Members.{Mut, Called}
+use Rattle.std.proofs.Common.{Iter}
+use Rattle.std.specs.Iterator.{Yields, ChecksAny}
+use Rattle.std.proofs.lemmas.Fn.{chained_keeps, fronts}
+use Rattle.std.specs.Option.{option_map_or, MatchOption}
+use Rattle.std.proofs.lemmas.Bool.{cases_Bool, cases_eq, both_ways, lt-ltb, le-ltb, ltb-false, ltb-true, cond_both, cond-true, cond-false, ne_eqb}
+use Rattle.std.proofs.lemmas.List.{map-append, at_drop_more, at_drop_all}
 use Rattle.fault.specs.declared.TableFault.TheVariants.{TooFewVersions}
 use Rattle.task.specs.declared.Access.{Access}
 use Rattle.task.specs.Access.{writes}
@@ -18,6 +23,7 @@ use Rattle.roll.specs.Roll.{Roll}
 use Rattle.roll.specs.Tables.{tally, live, needs, used, fresh, occupied, crowded, missing, full_set, stall}
 use Rattle.tracker.specs.Tracked.{sized}
 use Rattle.tracker.proofs.Tables.{tally_most}
+use Rattle.tracker.proofs.Tracking.{fresh_more as fresh_push}
 use Rattle.tracker.proofs.Room.{fresh_sized, occupied_sized}
 
 -- tests that agree hold first at the same number
@@ -161,6 +167,84 @@ fresh_so_far v z xs i m so_far = let k = fresh_most v z xs in omega (arith, so_f
 pub counted : (xs : List Access) (i z m m' s : ℕ) → s ≡ (get_or xs i blank).address % 64 → i < length xs →
     m + fresh (sized 0 0) [] z (drop i xs) ≡ fresh (sized 0 0) [] z xs → m' ≡ m + tally (eqb s z) → m' + fresh (sized 0 0) [] z (drop (i + 1) xs) ≡ fresh (sized 0 0) [] z xs
 counted xs i z m m' s e lt so_far c = fresh_more [] z xs i m m' lt so_far (c ∙ ap (λ b. m + tally b) (ap (λ n. eqb n z) e ∙ sym (and-true (eqb ((get_or xs i blank).address % 64) z))))
+
+-- the accesses of a list are counted, and no set has more than 8
+abbrev Counts : List ℕ → List Access → Type 0
+Counts ns ys = (z : ℕ) → z < 64 → (get_or ns z 0 ≤ 8) × (get_or ns z 0 ≡ fresh (sized 0 0) [] z ys)
+
+-- counts to which one access of a set is added
+abbrev Adds : List ℕ → List ℕ → Access → Type 0
+Adds ns ns' x = get_or ns (x.address % 64) 0 < 255 → (z : ℕ) → get_or ns' z 0 ≡ get_or ns z 0 + tally (eqb (x.address % 64) z)
+
+-- one access more, which is not one too many
+counts_more : (ns ns' : List ℕ) (ys : List Access) (x : Access) → Counts ns ys → Adds ns ns' x → get_or ns' (x.address % 64) 0 ≤ 8 → Counts ns' (ys ++ (x ∷ []))
+counts_more ns ns' ys x h adds few z lt =
+    let own = (h (x.address % 64) (omega arith)).0 in
+    let m = adds (omega (arith, own)) z in
+    let w = h z lt in
+    let k = fresh_push (sized 0 0) [] z ys x in
+    let b : tally (eqb (x.address % 64) z && true) ≡ tally (eqb (x.address % 64) z) = ap tally (and-true (eqb (x.address % 64) z)) in (
+      ⊎_elim
+          (λ (e : x.address % 64 ≡ z). subst (λ n. get_or ns' n 0 ≤ 8) e few)
+          (λ ne. let no : tally (eqb (x.address % 64) z) ≡ 0 = ap tally (ne_eqb (x.address % 64) z ne) in omega (arith, m, w.0, no))
+          (cases_eq (x.address % 64) z),
+      omega (arith, m, w.1, k, b),
+    )
+
+-- the new addresses of two lists
+fresh-++ : (z : ℕ) (xs ys : List Access) → fresh (sized 0 0) [] z (xs ++ ys) ≡ fresh (sized 0 0) [] z xs + fresh (sized 0 0) [] z ys
+fresh-++ z [] ys = omega arith
+fresh-++ z (x ∷ xs) ys = let k = fresh-++ z xs ys in omega (arith, k)
+
+-- what a slice's iterator gave, and what is left
+gave : (xs : List (Bor Access)) (s t : Iter Access) → Yields fronts s xs t → s.rest.now ≡ map (λ x. x.now) xs ++ t.rest.now
+gave [] s t y = ap (λ (i : Iter Access). i.rest.now) y
+gave (x ∷ xs) s t y = y.1 ∙ ap (λ (l : List Access). x.now ∷ l) (gave xs y.0 t y.2)
+
+-- counting by a closure that changes the counts, until a set has one too many
+pub any_crowds : {F : Type 0} (g : Mut F (Bor Access × Unit {0}) Bool) (counts : F → List ℕ) (s u : Iter Access) (f : F) (r : Bool) →
+    ChecksAny fronts g s f r u →
+    ((q : F) (x : Bor Access) (b : Bool) (v : F) → Called g q (x, tt) b v → (b ≡ ltb 8 (get_or (counts v) (x.now.address % 64) 0)) × Adds (counts q) (counts v) x.now) →
+    ((z : ℕ) → z < 64 → get_or (counts f) z 0 ≡ 0) → r ≡ is_some (crowded (λ z. fresh (sized 0 0) [] z s.rest.now))
+any_crowds {F} g counts s u f r ran says none = by ran.1 ran.3.2 ran.5
+  where
+    xs : List Access
+    xs = map (λ x. x.now) ran.0
+
+    t : Iter Access
+    t = ran.3.0
+
+    counted_so_far : Counts (counts ran.2) xs
+    counted_so_far =
+        chained_keeps (λ p x q. Called g p (x, tt) false q) (λ ys q. Counts (counts q) (map (λ x. x.now) ys))
+        (λ ys q x v h k.
+        let c = says q x false v k in
+        subst (Counts (counts v)) (sym (map-append (λ (y : Bor Access). y.now) ys (x ∷ [])))
+        (counts_more (counts q) (counts v) (map (λ y. y.now) ys) x.now h c.1 (ltb-false 8 (get_or (counts v) (x.now.address % 64) 0) (sym c.0))))
+        ran.0 f ran.2 (λ z lt. let e = none z lt in (omega (arith, e), none z lt)) ran.4
+
+    split : (z : ℕ) → fresh (sized 0 0) [] z s.rest.now ≡ fresh (sized 0 0) [] z xs + fresh (sized 0 0) [] z t.rest.now
+    split z = ap (fresh (sized 0 0) [] z) (gave ran.0 s t ran.3.1) ∙ fresh-++ z xs t.rest.now
+
+    by : (o : Option (Bor Access)) → fronts t o u → MatchOption o (r ≡ false) (λ x. (r ≡ true) × ((h : F) × Called g ran.2 (x, tt) true h)) →
+        r ≡ is_some (crowded (λ z. fresh (sized 0 0) [] z s.rest.now))
+    by None left e =
+        e ∙ sym (ap is_some (crowded_none (λ z. fresh (sized 0 0) [] z s.rest.now) (λ z lt.
+        let c = counted_so_far z lt in
+        let p = split z in
+        let m = fresh_most [] z t.rest.now in
+        let l = left.0 in
+        omega (arith, c.0, c.1, p, m, l))))
+    by (Some x) left e =
+        let z = x.now.address % 64 in
+        let c = says ran.2 x true e.1.0 e.1.1 in
+        let w = counted_so_far z (omega arith) in
+        let m = c.1 (omega (arith, w.0)) z in
+        let p = split z in
+        let over = ltb-true 8 (get_or (counts e.1.0) z 0) (sym c.0) in
+        let q : fresh (sized 0 0) [] z t.rest.now ≡ tally (eqb z z && true) + fresh (sized 0 0) [] z u.rest.now = ap (fresh (sized 0 0) [] z) left in
+        let b : tally (eqb z z && true) ≡ tally (eqb z z) = ap tally (and-true (eqb z z)) in
+        e.0 ∙ sym (crowded_some (λ k. fresh (sized 0 0) [] k s.rest.now) z (omega arith) (omega (arith, w.1, m, p, over, q, b)))
 
 -- what is missing, of the versions that are needed and those that are free
 pub missing_is : (n wanted taken free m : ℕ) (v : Roll) (xs : List Access) → wanted ≡ needs v xs → taken ≡ used [] v → free ≡ n - taken → m ≡ wanted - free →

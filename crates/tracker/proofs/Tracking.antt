@@ -134,6 +134,24 @@ joined_claims st c t h =
     (λ o. refl)
     (λ o. let k = claims-++ t st.waiting (c ∷ []) in let z : tally (eqb c.seat t) ≡ 0 = ap tally h in omega (arith, k, z))
 
+-- where the tables stand for the roll, its next access can be claimed
+pub joinable : (t : Tracker) (v : Roll) (s : ℕ) (ys : List Access) (x : Access) (P : (ℕ → State) → Type 0) →
+    Tracked t (plus v s ys) → occurs x.address ys ≡ false → (live v x.address ≡ false → occupied (sized 0 0) (x.address % 64) [] (plus v s ys) < 8) →
+    ((M : ℕ → State) → Table t.table M → ((M x.address).holders ≡ 0 → live_at t.table (x.address % 64) < 8) → (M x.address).holders + length (M x.address).waiting < 256 → P M) →
+    P (map_of (plus v s ys))
+joinable t v s ys x P k out room did =
+    let a = x.address in
+    let V = plus v s ys in
+    let M = map_of V in
+    let old : All (FitsIn t M) v = all_front (FitsIn t M) v (bare s ys ∷ []) (each t V k) in
+    let lv : ltb 0 (M a).holders ≡ live v a = live_held V a ∙ live_plus v s ys a out in
+    let n = length_plus v s ys in
+    let few = k.few in
+    let size = size_at v s ys a (all_apart t M v old) out in
+    did M k.table
+    (λ none. let dead : live v a ≡ false = sym lv ∙ ap (ltb 0) none in let q = room dead in let p = k.addresses (a % 64) (omega arith) in omega (arith, p, q))
+    (omega (arith, size, few, n))
+
 -- one more access of the last task joins
 pub tracked_join : (t t' : Tracker) (v : Roll) (s : ℕ) (ys : List Access) (x : Access) (r : Claimed) (version : Bool) →
     Tracked t (plus v s ys) → occurs x.address ys ≡ false → length ys < 15 →
@@ -161,10 +179,7 @@ tracked_join t t' v s ys x r version k out short room fits did isv versions coun
     let n = length_plus v s ys in
     let n' = length_plus v s (ys ++ (x ∷ [])) in
     let few = k.few in
-    let size = size_at v s ys a (all_apart t M v old) out in
-    let j = did M k.table
-    (λ none. let dead : live v a ≡ false = sym lv ∙ ap (ltb 0) none in let q = room dead in let p = k.addresses (a % 64) (omega arith) in omega (arith, p, q))
-    (omega (arith, size, few, n)) in
+    let j = joinable t v s ys x (λ N. Joined t.table t'.table N a (claim s x) r) k out room did in
     let isv' : version ≡ (writes x || not (live v a)) = isv ∙ ap (λ b. writes x || b) (j.fresh ∙ ap not lv) in
     let holds : r.holds ≡ not (against (writes x) (queue a v)) = j.holds ∙ holds_at_once v s ys x out in
     let hit : tally (not r.holds) ≡ tally (against (writes x) (queue a v)) = ap (λ b. tally (not b)) holds ∙ ap tally (not-not (against (writes x) (queue a v))) in

@@ -32,7 +32,9 @@ impl Tracker {
         ensures { (v : Roll) (ys : List Access) → Tracked self.old (v ++ (bare seat ys ∷ [])) → occurs access.address ys ≡ false → length ys < 15 → (live v access.address ≡ false → occupied (sized 0 0) (access.address % 64) [] (v ++ (bare seat ys ∷ [])) < 8) → ((writes access || not (live v access.address)) ≡ true → used [] (v ++ (bare seat ys ∷ [])) < 60000) → Tracked self.new (v ++ (bare seat (ys ++ (access ∷ [])) ∷ [])) }
     {
         let writes = access.writes();
-        let claimed = self.table.claim(access.address, Claim { seat, writes });
+        let Some(claimed) = self.table.claim(access.address, Claim { seat, writes }) else {
+            return;
+        };
         let version = takes_version(writes, claimed.fresh);
         self.count(seat, version, !claimed.holds);
     }

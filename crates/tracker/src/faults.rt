@@ -54,12 +54,9 @@ fn crowds(accesses: &[Access]) -> bool
         return false;
     }
     let mut counts = SetCounts::none();
-    for access in accesses {
-        if counts.add(Set::of(access.address)) > WAYS as u8 {
-            return true;
-        }
-    }
-    false
+    accesses
+        .iter()
+        .any(|access| counts.add(Set::of(access.address)) > WAYS as u8)
 }
 
 // The lower of a set and another, if there is another.

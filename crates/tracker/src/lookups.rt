@@ -1,5 +1,5 @@
 // The ways of the address table: looking up an address, a claim on it, and a claim that leaves.
-ghost use Rattle.std.specs.Prelude.{◌≡◌, ℕ, ◌+◌, ◌-◌, ◌*◌, ◌%◌, ◌<◌, ◌≤◌, true, false, not, ◌&&◌, T, length, set, if◌then◌else◌, vec_len, MatchOption, OnSome, ◌==◌, ◌≢◌, nat_eq, nat_lt};
+ghost use Rattle.std.specs.Prelude.{◌≡◌, ℕ, ◌+◌, ◌-◌, ◌*◌, ◌%◌, ◌<◌, ◌≤◌, true, false, not, ◌&&◌, T, length, set, if◌then◌else◌, vec_len, MatchOption, IsSomeAnd, OnSome, ◌==◌, ◌≢◌, nat_eq, nat_lt};
 ghost use Rattle.roll.specs.Tables.{tally};
 ghost use Rattle.claims.specs.Claims.{State, open_to, joined_by, dropped, promotes, moves, freed};
 ghost use Rattle.tracker.specs.State.{state_of};
@@ -54,6 +54,7 @@ impl AddressTable {
     }
 
     // One more claim on an address, at a way. Does it hold?
+    // Kept: what a change of one way leaves is said of each change by one word, `ChangesOnlyWay`; no value holds a relation of old and new.
     fn claim_at(&mut self, way: Way, address: u64, claim: Claim) -> bool
         ensures answer { result ≡ open_to (state_of (lock_at self.old way.number)) claim.writes }
         ensures tag { tag_at self.new way.number ≡ address }
@@ -107,20 +108,15 @@ impl AddressTable {
         }
     }
 
-    // One more claim on an address: a way is found for it, and the set's count follows.
-    pub(crate) fn claim(&mut self, address: u64, claim: Claim) -> Claimed
-        ensures { (M : ℕ → State) → Table self.old M → ((M address).holders ≡ 0 → live_at self.old (address % 64) < 8) → (M address).holders + length (M address).waiting < 256 → Joined self.old self.new M address claim result }
+    // One more claim on an address, at a way that is found for it; the set's count follows. What did it meet, if there was a way?
+    pub(crate) fn claim(&mut self, address: u64, claim: Claim) -> Option<Claimed>
+        ensures { (M : ℕ → State) → Table self.old M → ((M address).holders ≡ 0 → live_at self.old (address % 64) < 8) → (M address).holders + length (M address).waiting < 256 → IsSomeAnd result (Joined self.old self.new M address claim) }
     {
-        let Some(way) = self.place(address) else {
-            return Claimed {
-                fresh: false,
-                holds: false,
-            };
-        };
+        let way = self.place(address)?;
         let fresh = !self.is_live(way);
         let holds = self.claim_at(way, address, claim);
         self.open(way, fresh);
-        Claimed { fresh, holds }
+        Some(Claimed { fresh, holds })
     }
 
     // Does a version fall free when a holder of the address at a way leaves?

@@ -3,7 +3,7 @@ ghost use Rattle.std.specs.Prelude.{◌≡◌, ℕ, ◌<◌, ◌≤◌};
 ghost use Rattle.tracker.specs.Covered.{Covered};
 
 // The places from first up to before end.
-// Kept: a Range of the library is no Copy value, and whoever walks a span takes its two ends apart anyway.
+// Kept: `cover` is a method of its own; of a Range of the library it would be a function beside it, and none() and Copy would be lost.
 #[derive(Clone, Copy, PartialEq, Eq, Debug)]
 pub struct Span {
     pub first: usize,
