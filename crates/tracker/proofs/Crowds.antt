@@ -3,6 +3,7 @@
 --   crowded_none, crowded_some, crowded_alike    whether a set is crowded
 --   crowded_adds                                 the lowest crowded set, when one count grows
 --   needs_more, fresh_more and so on             a count along a list, with what is left of the list
+--   any_crowds                                   counting by a closure that changes the counts
 --   stall_short, stall_full                      too few versions; the lowest set without room
 use Rattle.std.proofs.Common.{◌≡◌, ℕ, zero, suc, ◌+◌, ◌-◌, ◌%◌, ◌<◌, ◌≤◌, min, Bool, true, false, cond, not, ◌&&◌, ◌||◌, eqb, ltb, List, [], ◌∷◌, length, get_or, drop, is_some, ◌++◌, map, subst, Some, None, Option, sym, refl, ap, ◌∙◌, ap₂, ⊎_elim, arith}
 use Rattle.std.proofs.Math.Bool.{and-true}
