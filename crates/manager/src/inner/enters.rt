@@ -30,6 +30,7 @@ impl Inner {
     }
 
     // The task enters the first free seat, which is this one, and joins the end of the roll.
+    // Kept: what stays (tables) is said of each part of a call by itself, as it is of each call.
     pub(crate) fn enter(&mut self, seat: u8, task: Task)
         requires sound { Sound self.old }
         requires first { (rest : List ℕ) × (free_of self.old ≡ seat ∷ rest) }
