@@ -42,9 +42,7 @@ impl Inner {
     {
         let _ = self.free.pop();
         let blocked = self.tracker.enter(seat, task.accesses());
-        let Some(occupant) = self.table.find(usize::from(seat)) else {
-            unreachable!()
-        };
+        let occupant = self.table.lend(seat);
         let _ = occupant.occupy(task, blocked);
         let _ = self.order.push(seat);
         if !blocked {

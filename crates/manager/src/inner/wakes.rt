@@ -41,9 +41,7 @@ impl Inner {
         if self.tracker.is_blocked(seat) {
             return false;
         }
-        let Some(occupant) = self.table.find(usize::from(seat)) else {
-            unreachable!()
-        };
+        let occupant = self.table.lend(seat);
         occupant.on(Event::Unblocked) && self.ready.push(seat)
     }
 }

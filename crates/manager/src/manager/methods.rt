@@ -49,9 +49,7 @@ impl Manager {
         let Some(first) = self.inner.ready.pop() else {
             return Err(ManagerFault::LineEmpty);
         };
-        let Some(occupant) = self.inner.table.find(usize::from(first)) else {
-            unreachable!()
-        };
+        let occupant = self.inner.table.lend(first);
         let _ = occupant.on(Event::Taken);
         let task = occupant.task();
         Ok((u16::from(first), task.kind, task.name))
