@@ -18,7 +18,7 @@ impl SeatTable {
         self.records.get_mut(seat)
     }
 
-    // The record of a seat that has a number below 256, to be changed in place; all others stay.
+    // The same of a table that has a record for every seat, so that there is always one.
     pub(crate) fn lend(&mut self, seat: u8) -> &mut Seat
         requires { vec_len self.old.records ≡ 256 }
         ensures* follows { sem 𝓛 (follows the_row seat-row self.entry.ghost_name result.ghost_name (λ w. record { records = with_item self.old.records seat w })) }

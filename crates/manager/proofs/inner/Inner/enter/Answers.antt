@@ -37,7 +37,3 @@ returns-else-not-blocked c =
     c.occupy.ensures.task c.occupy.ensures.standing c.pop.result c.pop.new.self c.pop.ensures.cases c.push.new.self c.push.result c.push.ensures.answer
     c.push.ensures.listed c.enter-blocked.new.self c.accesses.result.now c.accesses.ensures c.enter-blocked.ensures c.requires.apart c.requires.fits _ line in
     record { after = state_entered i _ s task b sound e; tables = refl; sound = sound_entered i _ s task b sound e }
-
--- there is a record for every seat
-pub lend-occupant-requires : goal.lend-occupant-requires
-lend-occupant-requires c = c.requires.sound.seated.full

@@ -48,7 +48,3 @@ returns c =
     let all = left_all i _ s y c.leave.new.span k c.requires.done refl refl standing refl free order
     c.remove.ensures.stays refl refl tables (c.leave.ensures.woken (bares (roll_of i)) k.seated.tracked) in
     record { after = all.0; tables = refl; waking = all.1 }
-
--- there is a record for every seat
-pub lend-occupant-requires : goal.lend-occupant-requires
-lend-occupant-requires c = c.requires.sound.seated.full

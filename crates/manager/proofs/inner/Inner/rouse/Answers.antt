@@ -45,7 +45,3 @@ returns-then-on c =
           (c.on.ensures.task ∙ ap (λ (y : Seat). y.task) same) (ready_if i s x w r same (room ∙ c.if-on.ensures.answer) c.on.ensures.standing)
           (c.push.ensures.contents ∙ joined_if r (ready_of i) s) refl refl refl refl refl;
     }
-
--- there is a record for every seat
-pub lend-occupant-requires : goal.lend-occupant-requires
-lend-occupant-requires c = c.requires.full

@@ -24,7 +24,3 @@ returns-clause-after c =
     let begun = taken_first m.inner m.sound c.pop.new.self c.in-Some.first c.lend-occupant.result.now c.on.new.self c.in-Some.ensures.cases
     c.lend-occupant.ensures.value c.on.ensures.task c.on.ensures.standing in
     begun.after
-
--- there is a record for every seat
-pub lend-occupant-requires : goal.lend-occupant-requires
-lend-occupant-requires c = c.args.self.now.sound.seated.full
