@@ -33,7 +33,8 @@ use Rattle.manager.proofs.Passed.{passed, passed_first, passed_few, passed_apart
 use Rattle.manager.proofs.Rolls.{map_same}
 use Rattle.manager.proofs.Standings.{waiting_not_free}
 use Rattle.manager.proofs.Seats.{seat_listed, entries_own}
-use Rattle.manager.proofs.Wakes.{member-++, filter_none, filter_same, stirs, Decides, woken_entry, wake_map, woken_filter}
+use Rattle.acceptance.proofs.Lists.{member_append}
+use Rattle.manager.proofs.Wakes.{filter_none, filter_same, stirs, Decides, woken_entry, wake_map, woken_filter}
 
 -- which seats were reached, and which of them became ready
 abbrev pub reached : Inner → ℕ → ℕ → Bool
@@ -118,7 +119,7 @@ walk_more i j k p s r e new h answer g =
     let stands : (t : ℕ) → (seat_at k t).standing ≡ cond (reached i (p + 1) t) Ready (seat_at i t).standing = λ t.
     g.standing t ∙ ap (λ (st : Standing). cond (eqb t s && r) Ready st) (h.standing t)
     ∙ standing_more (eqb t s) r (member t l) (wakes i t) (seat_at i t).standing (λ q. ap (λ (x : ℕ). member x l) (eqb-true t s q) ∙ new) (λ q. same ∙ ap (wakes i) (sym (eqb-true t s q)))
-    ∙ ap (λ (b : Bool). cond (wakes i t && b) Ready (seat_at i t).standing) (sym (ap (member t) e ∙ member-++ t l (s ∷ []))) in
+    ∙ ap (λ (b : Bool). cond (wakes i t && b) Ready (seat_at i t).standing) (sym (ap (member t) e ∙ member_append t l (s ∷ []))) in
     record {
       seated = g.seated;
       task = λ t. g.task t ∙ h.task t;

@@ -23,7 +23,9 @@ use Rattle.manager.specs.Answers.{no_values}
 use Rattle.manager.specs.Lines.{occurrences}
 use Rattle.manager.specs.Model.{seat_at, entry_of, roll_of, ready_of, free_of, state_of}
 use Rattle.manager.specs.Sound.{is_free, is_waiting, is_ready, free_at, waiting_at, ready_at, Sound}
-use Rattle.manager.proofs.Occurs.{occurrences_push, tally_one, tally_same, tally_other}
+use Rattle.roll.proofs.Split.{once_itself}
+use Rattle.tracker.proofs.Tables.{tally_most}
+use Rattle.manager.proofs.Occurs.{occurrences_push, tally_other}
 use Rattle.manager.proofs.Rolls.{map_same}
 use Rattle.manager.proofs.Seats.{seat_listed}
 use Rattle.manager.proofs.Decided.{bares_split}
@@ -128,7 +130,7 @@ module _ (i i' : Inner) (s : ℕ) (task : Task) (b : Bool) (sound : Sound i) (e 
   -- the seat is within the number of seats, since it was in the free line
   within_here : (v : Bool) → ltb s i.seats ≡ v → tally (eqb s s) + occurrences s (free_of i') ≡ tally (v && free_at i s) → s < i.seats
   within_here true h sum = ltb-true s i.seats h
-  within_here false h sum = absurd (omega (arith, sum, tally_same s))
+  within_here false h sum = absurd (omega (arith, sum, once_itself s))
 
   within_entered : (t : ℕ) → free_at i' t ≡ false → t < i'.seats
   within_entered t taken =
@@ -140,7 +142,7 @@ module _ (i i' : Inner) (s : ℕ) (task : Task) (b : Bool) (sound : Sound i) (e 
 
   freed_here : occurrences s (free_of i') ≡ tally (ltb s i'.seats && free_at i' s)
   freed_here =
-      let none : occurrences s (free_of i') ≡ 0 = omega (arith, line_before s, tally_same s, tally_one (ltb s i.seats && free_at i s)) in
+      let none : occurrences s (free_of i') ≡ 0 = omega (arith, line_before s, once_itself s, tally_most (ltb s i.seats && free_at i s)) in
       none ∙ ap tally (sym (and_right (ltb s i'.seats) (free_at i' s) free_here))
 
   freed_other : (t : ℕ) → (t ≡ s → ⊥) → occurrences t (free_of i') ≡ tally (ltb t i'.seats && free_at i' t)

@@ -18,8 +18,9 @@ use Rattle.manager.specs.declared.inner.Inner.{Inner}
 use Rattle.manager.specs.Lines.{occurrences}
 use Rattle.manager.specs.Model.{seat_at, entry_of, roll_of, ready_of, free_of}
 use Rattle.manager.specs.Sound.{free_at, ready_at, Seated}
-use Rattle.manager.proofs.Occurs.{occurrences-++, occurrences_absent, counted, tally_same, fits_more, line_room}
-use Rattle.manager.proofs.Rolls.{eqb_flip}
+use Rattle.roll.proofs.Split.{once_itself}
+use Rattle.manager.proofs.Occurs.{occurrences-++, occurrences_absent, counted, fits_more, line_room}
+use Rattle.order.proofs.Update.{eqb_flip}
 use Rattle.manager.proofs.Seats.{seat_unlisted, ready_low}
 use Rattle.manager.proofs.Standings.{free_not_ready}
 
@@ -28,7 +29,7 @@ absent_map : (f : ℕ → Entry) → ((t : ℕ) → (f t).job.seat ≡ t) → (s
 absent_map f own s [] h = tt
 absent_map f own s (x ∷ l) h =
     let parts = or_parts (eqb s x) (member s l) h in
-    (ap (λ (t : ℕ). eqb t s) (own x) ∙ eqb_flip s x false parts.0, absent_map f own s l parts.1)
+    (ap (λ (t : ℕ). eqb t s) (own x) ∙ eqb_flip s x parts.0, absent_map f own s l parts.1)
 
 -- each seat is listed at most once
 listed_once : (a : Acceptance) (t : ℕ) → occurrences t (listed a) ≤ 1
@@ -39,14 +40,14 @@ listed_once a t = elim (cases_Bool (member t (listed a))) [ inl there ↦ once t
         let split = before_place a t h in
         let apart = listed_apart a t (below a (place_of a t)) split.0 split.1 in
         rw split.1
-        (omega (arith, occurrences-++ t (below a (place_of a t)) (t ∷ split.0), occurrences_absent t (below a (place_of a t)) apart.0, occurrences_absent t split.0 apart.1, tally_same t))
+        (omega (arith, occurrences-++ t (below a (place_of a t)) (t ∷ split.0), occurrences_absent t (below a (place_of a t)) apart.0, occurrences_absent t split.0 apart.1, once_itself t))
 
 module _ (i : Inner) (seated : Seated i) (s : ℕ) (rest : List ℕ) (first : free_of i ≡ s ∷ rest) where
   -- the first of the free line is a seat of the table, and free
   pub first_there : (ltb s i.seats ≡ true) × (free_at i s ≡ true)
   first_there =
       let line : occurrences s (s ∷ rest) ≡ tally (ltb s i.seats && free_at i s) = ap (occurrences s) (sym first) ∙ seated.freed s in
-      and_parts (ltb s i.seats) (free_at i s) (counted (ltb s i.seats && free_at i s) (omega (arith, tally_same s)))
+      and_parts (ltb s i.seats) (free_at i s) (counted (ltb s i.seats && free_at i s) (omega (arith, once_itself s)))
 
   pub first_free : free_at i s ≡ true
   first_free = first_there.1

@@ -28,11 +28,13 @@ use Rattle.manager.specs.Lines.{occurrences}
 use Rattle.manager.specs.Model.{seat_at, entry_of, roll_of, ready_of, free_of, state_of}
 use Rattle.manager.specs.Sound.{is_free, is_waiting, is_ready, free_at, waiting_at, ready_at, Seated, Sound}
 use Rattle.manager.proofs.Decided.{entry_at, idle_at, bares_split, tables_decide}
-use Rattle.manager.proofs.Occurs.{occurrences_push, tally_same, tally_other, line_room}
+use Rattle.roll.proofs.Split.{once_itself}
+use Rattle.manager.proofs.Occurs.{occurrences_push, tally_other, line_room}
 use Rattle.manager.proofs.Rolls.{map_same, map_without}
 use Rattle.manager.proofs.Standings.{waiting_not_free}
 use Rattle.manager.proofs.Seats.{entries_own, seat_listed, seat_low, seat_set, seat_other}
-use Rattle.manager.proofs.Wakes.{member-++, member_splits, Decides}
+use Rattle.acceptance.proofs.Lists.{member_append}
+use Rattle.manager.proofs.Wakes.{member_splits, Decides}
 
 -- without one of the earlier tasks, what was not blocked is not
 blocked_fewer : (f : ℕ → Entry) (pre mid : List ℕ) (s : ℕ) (xs : List Access) → blocked (map f (pre ++ (s ∷ mid))) xs ≡ false → blocked (map f (pre ++ mid)) xs ≡ false
@@ -46,7 +48,7 @@ idle_stays : (f : ℕ → Entry) (before after : ℕ → Bool) (pre post : List 
     (t : ℕ) → member t (pre ++ post) ≡ true → before t ≡ true → after t ≡ true
 idle_stays f before after pre post s was is t m idle =
     let xs : List Access = (f t).job.accesses in
-    elim (or_cases (member t pre) (member t post) (sym (member-++ t pre post) ∙ m)) [
+    elim (or_cases (member t pre) (member t post) (sym (member_append t pre post) ∙ m)) [
       | inl there ↦
           let r = member_splits t pre there in
           let h = was r.0 (r.1.0 ++ (s ∷ post)) t (ap (λ (l : List ℕ). l ++ (s ∷ post)) r.1.1 ∙ append_assoc r.0 (t ∷ r.1.0) (s ∷ post)) in
@@ -100,11 +102,11 @@ module _ (i j : Inner) (s : ℕ) (w : Seat) (span : Span) (k : Sound i) (done : 
 
   -- the seat is not listed any more, and all others are as they were
   gone : member s (before ++ behind) ≡ false
-  gone = member-++ s before behind ∙ or_from (member s before) (member s behind) apart.0 apart.1
+  gone = member_append s before behind ∙ or_from (member s before) (member s behind) apart.0 apart.1
 
   same_member : (t : ℕ) → (t ≡ s → ⊥) → member t (before ++ behind) ≡ member t (before ++ (s ∷ behind))
   same_member t other =
-      member-++ t before behind ∙ ap (λ (b : Bool). member t before || (b || member t behind)) (sym (ne_eqb t s other)) ∙ sym (member-++ t before (s ∷ behind))
+      member_append t before behind ∙ ap (λ (b : Bool). member t before || (b || member t behind)) (sym (ne_eqb t s other)) ∙ sym (member_append t before (s ∷ behind))
 
   other_if : (t : ℕ) → member t (before ++ behind) ≡ true → t ≡ s → ⊥
   other_if t m e = both_ways (member s (before ++ behind)) gone (ap (λ (x : ℕ). member x (before ++ behind)) (sym e) ∙ m)
@@ -165,7 +167,7 @@ module _ (i j : Inner) (s : ℕ) (w : Seat) (span : Span) (k : Sound i) (done : 
       elim (cases_eq t s) [
         | inl same ↦
             let none : tally (ltb t i.seats && free_at i t) ≡ 0 = ap tally (and_right (ltb t i.seats) (free_at i t) (ap (free_at i) same ∙ taken)) in
-            let one : tally (eqb s t) ≡ 1 = ap (λ (u : ℕ). tally (eqb s u)) same ∙ tally_same s in
+            let one : tally (eqb s t) ≡ 1 = ap (λ (u : ℕ). tally (eqb s u)) same ∙ once_itself s in
             let inside : ltb t j.seats ≡ true = ap₂ ltb same seats ∙ lt-ltb s i.seats (k.seated.within s taken) in
             let now : tally (ltb t j.seats && free_at j t) ≡ 1 = ap tally (and_from (ltb t j.seats) (free_at j t) inside (ap (free_at j) same ∙ ap is_free here)) in
             omega arith

@@ -8,6 +8,8 @@ use Rattle.std.proofs.Common.{◌≡◌, ℕ, zero, suc, ◌+◌, ◌<◌, ◌�
 use Rattle.std.proofs.lemmas.Bool.{eqb-true, eqb-false, eq-eqb, ne_eqb, not-false, cases_eq}
 use Rattle.roll.specs.Tables.{tally}
 use Rattle.acceptance.specs.Listed.{member, removed}
+use Rattle.roll.proofs.Split.{once_itself}
+use Rattle.tracker.proofs.Tables.{tally_most}
 use Rattle.manager.specs.Lines.{occurrences}
 
 -- two lists, one after the other
@@ -19,20 +21,12 @@ occurrences-++ s (x ∷ xs) ys = let rest = occurrences-++ s xs ys in omega arit
 pub occurrences_push : (s : ℕ) (xs : List ℕ) (y : ℕ) → occurrences s (xs ++ (y ∷ [])) ≡ occurrences s xs + tally (eqb y s)
 occurrences_push s xs y = let sum = occurrences-++ s xs (y ∷ []) in omega arith
 
--- a test counts at most once
-pub tally_one : (b : Bool) → tally b ≤ 1
-tally_one true = omega arith
-tally_one false = omega arith
-
 -- a test that counts holds
 pub counted : (b : Bool) → 1 ≤ tally b → b ≡ true
 counted true h = refl
 counted false h = absurd (omega arith)
 
--- a number itself, and another
-pub tally_same : (s : ℕ) → tally (eqb s s) ≡ 1
-tally_same s = rw (eq-eqb s s refl)
-
+-- a number is not another
 pub tally_other : (s t : ℕ) → (s ≡ t → ⊥) → tally (eqb s t) ≡ 0
 tally_other s t ne = rw (ne_eqb s t ne)
 
@@ -85,7 +79,7 @@ occurrences_absent n xs h = eqb-true (occurrences n xs) 0 (not-false (eqb (occur
 
 -- the first of a list occurs
 head_occurs : (x : ℕ) (xs : List ℕ) → 1 ≤ occurrences x (x ∷ xs)
-head_occurs x xs = let one = tally_same x in omega arith
+head_occurs x xs = let one = once_itself x in omega arith
 
 -- a removal leaves no number more often
 pub occurrences_fewer : (t n : ℕ) (xs : List ℕ) → occurrences t (removed n xs) ≤ occurrences t xs
@@ -120,13 +114,13 @@ few zero (x ∷ xs) once low = omega (arith, low x (omega arith), head_occurs x 
 few (suc n) xs once low =
     let fewer : (t : ℕ) → occurrences t (removed n xs) ≤ 1 = λ t. omega (arith, occurrences_fewer t n xs, once t) in
     let shorter = few n (removed n xs) fewer (few_step n xs once low) in
-    omega (arith, length_removed n xs, tally_one (member n xs))
+    omega (arith, length_removed n xs, tally_most (member n xs))
 
 -- of numbers below 256, each at most once, of which one does not occur, there are fewer than 256
 one_more : (s : ℕ) (xs : List ℕ) → occurrences s xs ≡ 0 → ((t : ℕ) → occurrences t xs ≤ 1) → (t : ℕ) → tally (eqb s t) + occurrences t xs ≤ 1
 one_more s xs none once t =
     elim (cases_eq t s) [
-      | inl same ↦ rw same (omega (arith, tally_one (eqb s s)))
+      | inl same ↦ rw same (omega (arith, tally_most (eqb s s)))
       | inr other ↦ omega (arith, tally_other s t (λ e. other (sym e)), once t)
     ]
 
@@ -140,4 +134,4 @@ fits_more xs once low s lt none =
 pub line_room : (xs : List ℕ) (p : ℕ → Bool) → ((t : ℕ) → occurrences t xs ≡ tally (p t)) → ((t : ℕ) → 256 ≤ t → p t ≡ false) →
     (s : ℕ) → s < 256 → p s ≡ false → length xs < 256
 line_room xs p each low s lt none =
-    fits_more xs (λ t. omega (arith, each t, tally_one (p t))) (λ t le. each t ∙ ap tally (low t le)) s lt (each s ∙ ap tally none)
+    fits_more xs (λ t. omega (arith, each t, tally_most (p t))) (λ t le. each t ∙ ap tally (low t le)) s lt (each s ∙ ap tally none)

@@ -7,7 +7,8 @@ use Rattle.std.proofs.lemmas.Bool.{or_left, both_ways, cases_Bool}
 use Rattle.acceptance.specs.declared.Acceptance.{Acceptance}
 use Rattle.acceptance.specs.Listed.{member, below, listed, place_of}
 use Rattle.acceptance.proofs.Laws.{from_place, listed_apart, listed_few, listed_before, below_has, below_not}
-use Rattle.manager.proofs.Wakes.{member-++, member_splits}
+use Rattle.acceptance.proofs.Lists.{member_append}
+use Rattle.manager.proofs.Wakes.{member_splits}
 
 -- the listed seats before a place, which may be behind the end
 abbrev pub passed : Acceptance → ℕ → List ℕ
@@ -29,7 +30,7 @@ module _ (a : Acceptance) where
             let r = member_splits t rest there in
             let parts : listed a ≡ (front ++ r.0) ++ (t ∷ r.1.0) = passed_first p ∙ ap (λ (l : List ℕ). front ++ l) r.1.1 ∙ sym (append_assoc front r.0 (t ∷ r.1.0)) in
             let none = (listed_apart a t (front ++ r.0) r.1.0 parts).0 in
-            absurd (both_ways (member t (front ++ r.0)) none (member-++ t front r.0 ∙ or_left (member t front) (member t r.0) h))
+            absurd (both_ways (member t (front ++ r.0)) none (member_append t front r.0 ∙ or_left (member t front) (member t r.0) h))
       ]
 
   -- there are at most 256

@@ -1,16 +1,17 @@
 -- A roll made of a list of seats, each with its entry: one seat's entry found, changed and taken off. Assumes nothing.
 use Rattle.std.proofs.Common.{◌≡◌, ℕ, Bool, true, false, cond, ◌||◌, eqb, List, [], ◌∷◌, ◌++◌, map, Some, None, sym, refl, ap, ◌∙◌, ap₂}
-use Rattle.std.proofs.lemmas.Bool.{eqb-true, eqb-false, eq-eqb, ne_eqb, or_parts, or_left, or_right, both_ways}
+use Rattle.std.proofs.lemmas.Bool.{eqb-true, eqb-false, eq-eqb, or_parts, or_left, or_right, both_ways}
 use Rattle.acceptance.specs.Listed.{member, removed}
+use Rattle.order.proofs.Update.{eqb_flip}
 use Rattle.roll.specs.Roll.{Standing, Entry, Roll, sits, stand, find, change, without}
 
 -- a test of two numbers reads the same either way round
-pub eqb_flip : (a b : ℕ) (v : Bool) → eqb a b ≡ v → eqb b a ≡ v
-eqb_flip a b true h = eq-eqb b a (sym (eqb-true a b h))
-eqb_flip a b false h = ne_eqb b a (λ e. eqb-false a b h (sym e))
+turned : (a b : ℕ) (v : Bool) → eqb a b ≡ v → eqb b a ≡ v
+turned a b true h = eq-eqb b a (sym (eqb-true a b h))
+turned a b false h = eqb_flip a b h
 
-pub eqb_turn : (a b : ℕ) → eqb b a ≡ eqb a b
-eqb_turn a b = eqb_flip a b (eqb a b) refl
+eqb_turn : (a b : ℕ) → eqb b a ≡ eqb a b
+eqb_turn a b = turned a b (eqb a b) refl
 
 -- the roll of two functions that agree on the listed seats
 pub map_same : (f g : ℕ → Entry) (l : List ℕ) → ((t : ℕ) → member t l ≡ true → f t ≡ g t) → map f l ≡ map g l

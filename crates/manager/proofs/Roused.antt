@@ -26,7 +26,8 @@ use Rattle.manager.specs.Lines.{occurrences}
 use Rattle.manager.specs.Model.{seat_at, entry_of, roll_of, ready_of}
 use Rattle.manager.specs.Sound.{is_free, is_waiting, is_ready, free_at, waiting_at, ready_at, Seated}
 use Rattle.manager.specs.Finished.{BecameReady}
-use Rattle.manager.proofs.Occurs.{occurrences-++, tally_same, tally_other, line_room}
+use Rattle.roll.proofs.Split.{once_itself}
+use Rattle.manager.proofs.Occurs.{occurrences-++, tally_other, line_room}
 use Rattle.manager.proofs.Standings.{waiting_not_ready, waiting_not_free}
 use Rattle.manager.proofs.Seats.{seat_set, seat_other, ready_low}
 
@@ -59,7 +60,7 @@ lined_more s t true st xs was h =
     let more = occurrences-++ t xs (s ∷ []) in
     elim (cases_eq t s) [
       | inl same ↦
-          let one : tally (eqb s t) ≡ 1 = ap (λ (u : ℕ). tally (eqb s u)) same ∙ tally_same s in
+          let one : tally (eqb s t) ≡ 1 = ap (λ (u : ℕ). tally (eqb s u)) same ∙ once_itself s in
           let none : tally (is_ready st) ≡ 0 = ap tally (waiting_not_ready st (h same)) in
           let now : tally (is_ready (cond (eqb t s && true) Ready st)) ≡ 1 = ap (λ (v : Bool). tally (is_ready (cond (v && true) Ready st))) (eq-eqb t s same) in
           omega arith

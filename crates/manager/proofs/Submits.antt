@@ -2,7 +2,7 @@
 --   apart_from          a task without a repeated address has its addresses apart
 --   seat_refuses        the fault of the tables
 --   seat_gives          no fault, and the first free seat
-use Rattle.std.proofs.Common.{◌≡◌, ℕ, zero, suc, ◌+◌, ◌<◌, ◌≤◌, Bool, true, false, cond, eqb, ltb, List, [], ◌∷◌, length, take, Some, None, Ok, Err, Option, refl, ap, ◌∙◌, subst, arith}
+use Rattle.std.proofs.Common.{◌≡◌, ℕ, suc, ◌+◌, ◌<◌, ◌≤◌, Bool, true, false, cond, eqb, ltb, List, [], ◌∷◌, length, take, Some, None, Ok, Err, Option, refl, ap, ◌∙◌, subst, arith}
 use Rattle.std.proofs.lemmas.Bool.{or_parts, or_from}
 use Rattle.fault.specs.declared.TableFault.{TableFault}
 use Rattle.fault.specs.declared.TableFault.TheVariants.{NeverFits}
@@ -10,8 +10,9 @@ use Rattle.fault.specs.declared.ManagerFault.{ManagerFault}
 use Rattle.fault.specs.declared.ManagerFault.TheVariants.{Table, TooManyAccesses, RepeatedAddress, NotHeld}
 use Rattle.task.specs.declared.Access.{Access}
 use Rattle.task.specs.Limits.{max_accesses}
-use Rattle.admission.specs.Admission.{first_from, address_at, occurs, repeated, not_held, fault_at, task_fault, unless}
-use Rattle.manager.proofs.Rolls.{eqb_flip}
+use Rattle.admission.specs.Admission.{address_at, occurs, repeated, not_held, fault_at, task_fault, unless}
+use Rattle.admission.proofs.Sound.{nowhere, no_fault}
+use Rattle.order.proofs.Update.{eqb_flip}
 use Rattle.claims.specs.Queues.{Apart}
 use Rattle.roll.specs.Tables.{Tables, never_fits, stall, by_tables, or_else, submit_fault}
 use Rattle.roll.specs.Calls.{State, Outcome, refused, succeeded, give_seat, submitted, accepted}
@@ -21,25 +22,10 @@ use Rattle.manager.specs.Model.{state_of}
 use Rattle.manager.specs.Answers.{no_values}
 use Rattle.manager.specs.Entered.{table_fault, seat_unless}
 
--- where no number passes the test, the first does not, and none of the others
-none_first : (p : ℕ → Bool) (i n : ℕ) (b : Bool) → cond b (Some i) (first_from p (suc i) n) ≡ None → b ≡ false
-none_first p i n true e = absurd cc
-none_first p i n false e = refl
-
-none_rest : (p : ℕ → Bool) (i n : ℕ) (b : Bool) → cond b (Some i) (first_from p (suc i) n) ≡ None → first_from p (suc i) n ≡ None
-none_rest p i n true e = absurd cc
-none_rest p i n false e = e
-
--- a test that holds nowhere among some numbers fails at each of them
-none_at : (p : ℕ → Bool) (i n : ℕ) → first_from p i n ≡ None → (k : ℕ) → k < n → p (i + k) ≡ false
-none_at p i zero e k lt = absurd (omega arith)
-none_at p i (suc n) e zero lt = let z : i + 0 ≡ i = omega arith in rw z (none_first p i n (p i) e)
-none_at p i (suc n) e (suc k) lt = let z : i + suc k ≡ suc i + k = omega arith in rw z (none_at p (suc i) n (none_rest p i n (p i) e) k (omega arith))
-
 -- an address that is that of none of the accesses does not occur
 occurs_none : (a : ℕ) (xs : List Access) → ((k : ℕ) → k < length xs → eqb a (address_at xs k) ≡ false) → occurs a xs ≡ false
 occurs_none a [] h = refl
-occurs_none a (x ∷ xs) h = or_from (eqb x.address a) (occurs a xs) (eqb_flip a x.address false (h 0 (omega arith))) (occurs_none a xs (λ k lt. h (suc k) (omega arith)))
+occurs_none a (x ∷ xs) h = or_from (eqb x.address a) (occurs a xs) (eqb_flip a x.address (h 0 (omega arith))) (occurs_none a xs (λ k lt. h (suc k) (omega arith)))
 
 -- addresses that do not occur earlier are apart
 apart_by : (xs : List Access) → ((k : ℕ) → k < length xs → occurs (address_at xs k) (take k xs) ≡ false) → Apart xs
@@ -49,18 +35,13 @@ apart_by (x ∷ xs) h = (
   apart_by xs (λ k lt. (or_parts (eqb x.address (address_at xs k)) (occurs (address_at xs k) (take k xs)) (h (suc k) (omega arith))).1),
 )
 
--- no fault at an access: there is none, and no next fault
-fault_none : (o : Option ℕ) (f : ℕ → ManagerFault) (next : Option ManagerFault) → fault_at o f next ≡ None → (o ≡ None) × (next ≡ None)
-fault_none None f next e = (refl, e)
-fault_none (Some i) f next e = absurd cc
-
 -- a task without a fault of its own
 sound_task : (held : ℕ → Bool) (xs : List Access) (b : Bool) → ltb max_accesses (length xs) ≡ b →
     cond b (Some TooManyAccesses) (fault_at (repeated xs) RepeatedAddress (fault_at (not_held held xs) NotHeld None)) ≡ None → (length xs ≤ 15) × Apart xs
 sound_task held xs true q e = absurd cc
 sound_task held xs false q e =
-    let none : repeated xs ≡ None = (fault_none (repeated xs) RepeatedAddress (fault_at (not_held held xs) NotHeld None) e).0 in
-    (grind arith, apart_by xs (λ k lt. let z : 0 + k ≡ k = omega arith in subst (λ (n : ℕ). occurs (address_at xs n) (take n xs) ≡ false) z (none_at (λ i. occurs (address_at xs i) (take i xs)) 0 (length xs) none k lt)))
+    let none : repeated xs ≡ None = (no_fault (repeated xs) RepeatedAddress (fault_at (not_held held xs) NotHeld None) e).0 in
+    (grind arith, apart_by xs (λ k lt. let z : 0 + k ≡ k = omega arith in subst (λ (n : ℕ). occurs (address_at xs n) (take n xs) ≡ false) z (nowhere (λ i. occurs (address_at xs i) (take i xs)) (length xs) 0 none k lt)))
 
 pub apart_from : (held : ℕ → Bool) (xs : List Access) → task_fault held xs ≡ None → (length xs ≤ 15) × Apart xs
 apart_from held xs e = sound_task held xs (ltb max_accesses (length xs)) refl e

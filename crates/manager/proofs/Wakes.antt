@@ -1,5 +1,5 @@
 -- Which tasks of a roll become ready, by a test for each seat, where the roll is made of a list of seats. Assumes nothing.
---   member-++, member_splits a number in a list
+--   member_splits            a number in a list
 --   filter_same, filter_none the numbers of a list that pass a test
 --   Decides                  a test says of each listed seat whether an earlier task blocks it
 --   wake_map, woken_filter   the roll with the tasks ready that become so, and their seats
@@ -9,13 +9,8 @@ use Rattle.std.proofs.lemmas.Bool.{eqb-true, eq-eqb, or_left, or_right, both_way
 use Rattle.task.specs.declared.Access.{Access}
 use Rattle.task.specs.Access.{conflict}
 use Rattle.acceptance.specs.Listed.{member}
+use Rattle.roll.proofs.Keeps.{or_swap}
 use Rattle.roll.specs.Roll.{Standing, waiting, ready, running, Entry, Roll, blocked, stand, rouse, roused, wake, woken}
-
--- a number in two lists, one after the other
-pub member-++ : (t : ℕ) (xs ys : List ℕ) → member t (xs ++ ys) ≡ (member t xs || member t ys)
-member-++ t [] ys = refl
-member-++ t (x ∷ xs) ys =
-    elim (eqb t x) as (λ v. (v || member t (xs ++ ys)) ≡ ((v || member t xs) || member t ys)) [ true ↦ refl | false ↦ member-++ t xs ys ]
 
 -- a list with a number in it, split there
 abbrev pub Splits : ℕ → List ℕ → Type 0
@@ -56,12 +51,6 @@ roused_filter false waiting s rest = refl
 roused_filter idle ready s rest = refl
 roused_filter idle (running ss) s rest = refl
 
--- of three tests the first two change places
-or_turn : (a b c : Bool) → ((a || b) || c) ≡ (b || (a || c))
-or_turn true true c = refl
-or_turn true false c = refl
-or_turn false b c = refl
-
 -- a test says of each listed seat that no earlier task blocks it, or that one does
 abbrev pub Decides : (ℕ → Entry) → (ℕ → Bool) → Roll → List ℕ → Type 0
 Decides f idle earlier l =
@@ -74,7 +63,7 @@ decides_first f idle earlier x l h = sym (or-false (blocked earlier (f x).job.ac
 decides_more : (f : ℕ → Entry) (idle : ℕ → Bool) (earlier : Roll) (x : ℕ) (l : List ℕ) → Decides f idle earlier (x ∷ l) → Decides f idle (f x ∷ earlier) l
 decides_more f idle earlier x l h pre post t e =
     let xs : List Access = (f t).job.accesses in
-    or_turn (conflict (f x).job.accesses xs) (blocked earlier xs) (blocked (map f pre) xs) ∙ h (x ∷ pre) post t (ap (λ (m : List ℕ). x ∷ m) e)
+    or_swap (conflict (f x).job.accesses xs) (blocked earlier xs) (blocked (map f pre) xs) ∙ h (x ∷ pre) post t (ap (λ (m : List ℕ). x ∷ m) e)
 
 -- the entry of a seat after every task that may has become ready
 abbrev pub woken_entry : (ℕ → Entry) → (ℕ → Bool) → ℕ → Entry

@@ -30,6 +30,7 @@ impl Inner {
     }
 
     // The task enters the first free seat, which is this one, and joins the end of the roll.
+    // Kept: what stays (tables) is said of each part of a call by itself, as it is of each call.
     pub(crate) fn enter(&mut self, seat: u8, task: Task)
         requires sound { Sound self.old }
         requires first { (rest : List ℕ) × (free_of self.old ≡ seat ∷ rest) }
@@ -41,9 +42,7 @@ impl Inner {
     {
         let _ = self.free.pop();
         let blocked = self.tracker.enter(seat, task.accesses());
-        let Some(occupant) = self.table.find(usize::from(seat)) else {
-            unreachable!()
-        };
+        let occupant = self.table.lend(seat);
         let _ = occupant.occupy(task, blocked);
         let _ = self.order.push(seat);
         if !blocked {

@@ -42,9 +42,7 @@ impl Inner {
         let occupant = &self.table.records[usize::from(seat)];
         self.tracker
             .leave(seat, occupant.task().accesses(), &self.order, &mut span);
-        let Some(occupant) = self.table.find(usize::from(seat)) else {
-            unreachable!()
-        };
+        let occupant = self.table.lend(seat);
         let _ = occupant.on(Event::Finished);
         let _ = self.order.remove(seat);
         let _ = self.free.push(seat);

@@ -14,7 +14,7 @@ use tracker::Span;
 impl Inner {
     // The second part of a finish: every waiting task that conflicts with no earlier one any more becomes ready and joins the ready
     // line, in roll order. Answers how many.
-    // Kept: an iterator over the order would borrow it while `rouse` changes the fields beside it.
+    // Kept: tried as filter and count over the places; the closure changes the manager, and then nothing is known of what it did.
     pub(crate) fn wake(&mut self, span: Span) -> u16
         requires { Waking self.old span }
         ensures answer { result ≡ length (woken [] (roll_of self.old)) }
@@ -41,9 +41,7 @@ impl Inner {
         if self.tracker.is_blocked(seat) {
             return false;
         }
-        let Some(occupant) = self.table.find(usize::from(seat)) else {
-            unreachable!()
-        };
+        let occupant = self.table.lend(seat);
         occupant.on(Event::Unblocked) && self.ready.push(seat)
     }
 }

@@ -20,6 +20,7 @@ const MOST_VERSIONS: usize = 512;
 
 impl Manager {
     // A manager with this many seats and version places, at most 256 and 512, and no task; every seat is free, in order of its number.
+    // Kept: the interface of the makers names two plain numbers, as a rule of the project.
     pub fn new(heap: Global, seats: usize, versions: usize) -> Result<Manager, AllocError>
         ensures tables { IfOk result (λ m. tables_of m.inner ≡ tables seats versions) }
         ensures roll { IfOk result (λ m. roll_of m.inner ≡ []) }

@@ -17,7 +17,8 @@ use task::{Access, Task};
 impl Manager {
     // Accepts a task, which gets the first free seat and joins the end of the roll; it is ready if no earlier task conflicts with it.
     // Answers the seat.
-    // Kept: what stays (fixed, tables, refused) is said of each call by itself, so that a reader of one call needs no other.
+    // Kept: a word for what stays (fixed, tables, refused) would have to be looked up at each call; so each call says it in full.
+    // Kept: a list of more than 15 accesses has to be refused by 5, and a `Task` cannot hold one; so submit takes the parts.
     pub fn submit<H: Host>(
         &mut self,
         host: &H,
@@ -48,9 +49,7 @@ impl Manager {
         let Some(first) = self.inner.ready.pop() else {
             return Err(ManagerFault::LineEmpty);
         };
-        let Some(occupant) = self.inner.table.find(usize::from(first)) else {
-            unreachable!()
-        };
+        let occupant = self.inner.table.lend(first);
         let _ = occupant.on(Event::Taken);
         let task = occupant.task();
         Ok((u16::from(first), task.kind, task.name))

@@ -1,4 +1,4 @@
-use Rattle.std.proofs.Common.{◌≡◌, ℕ, ◌<◌, Bool, true, false, cond, List, [], ◌∷◌, ◌++◌, length, get_or, set, vec_items, refl, ap, ◌∙◌, subst, arith}
+use Rattle.std.proofs.Common.{◌≡◌, ℕ, ◌<◌, Bool, true, false, cond, List, [], ◌∷◌, ◌++◌, length, get_or, vec_items, refl, ap, ◌∙◌, subst, arith}
 use Rattle.std.proofs.lemmas.Bool.{lt-ltb}
 use Rattle.acceptance.specs.Listed.{removed, listed}
 use Rattle.claims.specs.Queues.{bare, bares}
@@ -31,9 +31,9 @@ returns c =
     let read : c.index-occupant.result.now ≡ get_or (vec_items i.table.records) s c.index-occupant.result.now = rw c.from.ensures at c.index-occupant.ensures in
     let xs : c.accesses.result.now ≡ accesses_of (seat_at i s).task =
     c.accesses.ensures ∙ ap accesses_of (c.task.ensures ∙ ap (λ (x : Seat). x.task) (lent_is i s c.index-occupant.result.now full low read)) in
-    let x : Seat = c.in-Some.occupant.now in
+    let x : Seat = c.lend-occupant.result.now in
     let y : Seat = c.on.new.self in
-    let lent : x ≡ get_or (vec_items i.table.records) s x = rw c.from-2.ensures at c.in-Some.ensures.follows_facts.1 in
+    let lent : x ≡ get_or (vec_items i.table.records) s x = c.lend-occupant.ensures.value in
     let was : x.standing ≡ Running Done = ap (λ (z : Seat). z.standing) (lent_is i s x full low lent) ∙ c.requires.done in
     let standing : y.standing ≡ Free = c.on.ensures.standing ∙ ap (λ (st : Standing). or_else (moved (accesses_of x.task) st Finished) st) was in
     let room : c.push.result ≡ true = c.push.ensures.answer ∙ lt-ltb (length (free_of i)) 256 (free_room i k.seated s taken) in
@@ -45,6 +45,6 @@ returns c =
     blocked pre (accesses_of (seat_at i s).task) ≡ false → Tracked c.leave.new.self (pre ++ post) =
     subst (λ (l : List Access). (pre post : Roll) → Tracked i.tracker (pre ++ (bare s l ∷ post)) → blocked pre l ≡ false → Tracked c.leave.new.self (pre ++ post)) xs
     c.leave.ensures.tables in
-    let all = left_all i _ s y c.leave.new.span k c.requires.done (ap (λ (p : ℕ). set (vec_items i.table.records) p y) c.from-2.ensures) refl standing refl free order
+    let all = left_all i _ s y c.leave.new.span k c.requires.done refl refl standing refl free order
     c.remove.ensures.stays refl refl tables (c.leave.ensures.woken (bares (roll_of i)) k.seated.tracked) in
     record { after = all.0; tables = refl; waking = all.1 }

@@ -2,7 +2,7 @@ use Rattle.std.proofs.Common.{◌≡◌, ℕ, ◌+◌, ◌≤◌, Bool, true, fa
 use mir.Val.{bool_byte}
 use Rattle.roll.specs.Tables.{tally}
 use Rattle.manager.proofs.Awake.{line_none, walk_start, place_seat, line_few, line_woken, awake_state, awake_sound}
-use Rattle.manager.proofs.Occurs.{tally_one}
+use Rattle.tracker.proofs.Tables.{tally_most}
 use Rattle.manager.proofs.inner.Inner.wake.Goals as goal
 
 -- a test that holds counts as one
@@ -17,7 +17,7 @@ pub overflow_add-count : goal.overflow_add-count
 overflow_add-count c =
     let few = line_few c.args.self.now c.loop-place.place in
     let count = c.loop-place.invariant.1 in
-    let one : c.from-count.result ≤ 1 = rw (c.from-count.ensures ∙ counts c.rouse.result) (tally_one c.rouse.result) in
+    let one : c.from-count.result ≤ 1 = rw (c.from-count.ensures ∙ counts c.rouse.result) (tally_most c.rouse.result) in
     omega arith
 
 -- the count and the fields after one place

@@ -1,4 +1,4 @@
-use Rattle.std.proofs.Common.{ℕ, Ok, sym, ap, ◌∙◌}
+use Rattle.std.proofs.Common.{ℕ, Ok, ap, ◌∙◌}
 use Rattle.manager.proofs.Taking.{taken_first}
 use Rattle.manager.proofs.manager.Manager.take.Goals as goal
 
@@ -6,21 +6,21 @@ use Rattle.manager.proofs.manager.Manager.take.Goals as goal
 pub invariant_of-self-2 : goal.invariant_of-self-2
 invariant_of-self-2 c =
     let m = c.args.self.now in
-    let begun = taken_first m.inner m.sound c.pop.new.self c.from.result c.in-Some-find.occupant.now c.on.new.self (rw c.from.ensures c.in-Some.ensures.cases)
-    c.in-Some-find.ensures.follows_facts.1 c.on.ensures.task c.on.ensures.standing in
+    let begun = taken_first m.inner m.sound c.pop.new.self c.in-Some.first c.lend-occupant.result.now c.on.new.self c.in-Some.ensures.cases
+    c.lend-occupant.ensures.value c.on.ensures.task c.on.ensures.standing in
     record { sound = begun.sound }
 
 pub returns-clause-answer : goal.returns-clause-answer
 returns-clause-answer c =
     let m = c.args.self.now in
-    let begun = taken_first m.inner m.sound c.pop.new.self c.from.result c.in-Some-find.occupant.now c.on.new.self (rw c.from.ensures c.in-Some.ensures.cases)
-    c.in-Some-find.ensures.follows_facts.1 c.on.ensures.task c.on.ensures.standing in
+    let begun = taken_first m.inner m.sound c.pop.new.self c.in-Some.first c.lend-occupant.result.now c.on.new.self c.in-Some.ensures.cases
+    c.lend-occupant.ensures.value c.on.ensures.task c.on.ensures.standing in
     let task = c.task-task.result.now in
-    ap (λ (s : ℕ). Ok (s, task.kind, task.name)) (c.from-2.ensures ∙ sym c.from.ensures) ∙ begun.answer task c.task-task.ensures
+    ap (λ (s : ℕ). Ok (s, task.kind, task.name)) c.from.ensures ∙ begun.answer task c.task-task.ensures
 
 pub returns-clause-after : goal.returns-clause-after
 returns-clause-after c =
     let m = c.args.self.now in
-    let begun = taken_first m.inner m.sound c.pop.new.self c.from.result c.in-Some-find.occupant.now c.on.new.self (rw c.from.ensures c.in-Some.ensures.cases)
-    c.in-Some-find.ensures.follows_facts.1 c.on.ensures.task c.on.ensures.standing in
+    let begun = taken_first m.inner m.sound c.pop.new.self c.in-Some.first c.lend-occupant.result.now c.on.new.self c.in-Some.ensures.cases
+    c.lend-occupant.ensures.value c.on.ensures.task c.on.ensures.standing in
     begun.after
