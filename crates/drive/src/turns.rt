@@ -22,7 +22,7 @@ pub struct Ran {
 // Takes the first ready task, does all its steps on the host and finishes it. Answers its seat, and how many tasks became ready.
 // Where no task is ready it refuses, and nothing changes; it refuses for no other reason.
 // Kept: manager and host stay two parameters, since dispatch and settle have no host, and the host is the caller's own.
-// Kept: what stays (fixed, tables, refused) is said of each call of this crate by itself, so that a reader of one call needs no other.
+// Kept: a word for what stays (fixed, tables, refused) would have to be looked up at each function; so each says it in full.
 pub fn turn<H: Host>(manager: &mut Manager, host: &mut H) -> Result<Ran, ManagerFault>
     ensures answer { result ≡ turn_result (turn_answer (setting_with manager.old (H.Host.fixed host.old)) (state_with manager.old (H.Host.values host.old))) }
     ensures after { state_with manager.new (H.Host.values host.new) ≡ state_after (setting_with manager.old (H.Host.fixed host.old)) (state_with manager.old (H.Host.values host.old)) (turn_calls (setting_with manager.old (H.Host.fixed host.old)) (state_with manager.old (H.Host.values host.old))) }

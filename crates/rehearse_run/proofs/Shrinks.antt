@@ -5,8 +5,9 @@ use Rattle.task.specs.declared.Access.{Access}
 use Rattle.host.specs.Meaning.{Fixed}
 use Rattle.layout.specs.Layout.{Contents, submits, finishes}
 use Rattle.order.specs.Steps.{Job, steps}
+use Rattle.roll.proofs.Keeps.{length_wake}
 use Rattle.roll.proofs.Parts.{after-++}
-use Rattle.roll.specs.Roll.{Standing, waiting, ready, running, Entry, Roll, sits, stand, find, change, without, wake}
+use Rattle.roll.specs.Roll.{Standing, waiting, ready, running, Entry, Roll, sits, stand, find, change, without}
 use Rattle.roll.specs.Tables.{submit_fault}
 use Rattle.roll.specs.Calls.{Setting, State, Call, take, step, finish, Outcome, refused, succeeded, give_seat, submitted, begun, begun_at, took, stepped, stepped_at, finished, finished_at, perform}
 use Rattle.roll.specs.Built.{left_by, state_after, times, steps_at, turn_after, turn_calls, with_seat, finish_answer, turn_from, turn_answer, asked}
@@ -15,7 +16,7 @@ use Rattle.roll.specs.Built.{left_by, state_after, times, steps_at, turn_after, 
 pub not_ok : {P : Type 0} → false ≡ true → P
 not_ok p = let z : ◌≡◌ {A = ℕ} 0 1 = cc in absurd (omega arith)
 
--- an entry in another standing, and entries that are woken, leave the roll as long as it was
+-- an entry in another standing leaves the roll as long as it was
 change_length : (s : ℕ) (st : Standing) (roll : Roll) → length (change s st roll) ≡ length roll
 change_length s st [] = refl
 change_length s st (e ∷ es) = go (sits s e) (change_length s st es)
@@ -23,10 +24,6 @@ change_length s st (e ∷ es) = go (sits s e) (change_length s st es)
     go : (b : Bool) → length (change s st es) ≡ length es → length (cond b (stand st e ∷ es) (e ∷ change s st es)) ≡ suc (length es)
     go true more = refl
     go false more = ap suc more
-
-wake_length : (earlier roll : Roll) → length (wake earlier roll) ≡ length roll
-wake_length earlier [] = refl
-wake_length earlier (e ∷ es) = ap suc (wake_length (e ∷ earlier) es)
 
 -- without the entry of a seat that is found it is one shorter, and never longer
 without_length : (s : ℕ) (roll : Roll) (e : Entry) → find s roll ≡ Some e → suc (length (without s roll)) ≡ length roll
@@ -80,7 +77,7 @@ module _ {V : Type 0} (b : State V) where
       suc (length (left_by b (finished b s st)).roll) ≡ length b.roll
   finished_one s e f waiting p = not_ok p
   finished_one s e f ready p = not_ok p
-  finished_one s e f (running []) p = ap suc (wake_length [] (without s b.roll)) ∙ without_length s b.roll e f
+  finished_one s e f (running []) p = ap suc (length_wake [] (without s b.roll)) ∙ without_length s b.roll e f
   finished_one s e f (running (σ ∷ ss)) p = not_ok p
 
   finished_at_one : (s : ℕ) (o : Option Entry) → find s b.roll ≡ o → is_ok (finish_answer (finished_at b s o)) ≡ true → suc (length (left_by b (finished_at b s o)).roll) ≡ length b.roll
@@ -99,7 +96,7 @@ module _ {V : Type 0} (b : State V) where
   finished_more : (s : ℕ) (st : Standing) → More (finished b s st)
   finished_more s waiting = omega arith
   finished_more s ready = omega arith
-  finished_more s (running []) = omega (arith, wake_length [] (without s b.roll), without_le s b.roll)
+  finished_more s (running []) = omega (arith, length_wake [] (without s b.roll), without_le s b.roll)
   finished_more s (running (σ ∷ ss)) = omega arith
 
   finished_at_more : (s : ℕ) (o : Option Entry) → More (finished_at b s o)

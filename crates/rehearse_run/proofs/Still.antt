@@ -11,6 +11,7 @@ use Rattle.roll.specs.Calls.{Setting, State, Call, submit, take, step, finish, O
 use Rattle.roll.specs.Built.{left_by, state_after, times, steps_at, turn_after, turn_calls, with_seat, finish_answer, turn_from, turn_answer, asked, feed_calls}
 use Rattle.roll.specs.History.{works}
 use Rattle.roll.proofs.Parts.{after-++}
+use Rattle.drive.proofs.Running.{found_changed}
 use Rattle.rehearse_run.proofs.Shrinks.{not_ok}
 
 -- a standing that is not running, and a roll of such
@@ -57,7 +58,7 @@ entry_still : (b : Bool) → Still (cond b waiting ready)
 entry_still true = tt
 entry_still false = tt
 
--- what is left without a seat does not depend on its standing, and the entry whose standing was changed is found in that standing
+-- what is left without a seat does not depend on its standing
 without_change : (s : ℕ) (st : Standing) (roll : Roll) → without s (change s st roll) ≡ without s roll
 without_change s st [] = refl
 without_change s st (x ∷ xs) = go (sits s x) refl (without_change s st xs)
@@ -65,15 +66,6 @@ without_change s st (x ∷ xs) = go (sits s x) refl (without_change s st xs)
     go : (b : Bool) → sits s x ≡ b → without s (change s st xs) ≡ without s xs → without s (cond b (stand st x ∷ xs) (x ∷ change s st xs)) ≡ cond b xs (x ∷ without s xs)
     go true q more = rw q refl
     go false q more = rw q (ap (λ (t : Roll). x ∷ t) more)
-
-found_changed : (s : ℕ) (st : Standing) (roll : Roll) (e : Entry) → find s roll ≡ Some e → find s (change s st roll) ≡ Some (stand st e)
-found_changed s st [] e p = let z : ◌≡◌ {A = ℕ} 0 1 = cc in absurd (omega arith)
-found_changed s st (x ∷ xs) e p = go (sits s x) refl p (λ q. found_changed s st xs e q)
-  where
-    go : (b : Bool) → sits s x ≡ b → cond b (Some x) (find s xs) ≡ Some e → (find s xs ≡ Some e → find s (change s st xs) ≡ Some (stand st e)) →
-        find s (cond b (stand st x ∷ xs) (x ∷ change s st xs)) ≡ Some (stand st e)
-    go true q r more = let same : x ≡ e = cc in rw q (ap (λ (y : Entry). Some (stand st y)) same)
-    go false q r more = rw q (more r)
 
 module _ {V : Type 0} (b : State V) where
   -- a take that succeeds: the seat is running, and without it the roll is as it was

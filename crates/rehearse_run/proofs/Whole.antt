@@ -1,5 +1,6 @@
 -- A whole rehearsal: all rounds from a manager that was just made. Assumes nothing.
-use Rattle.std.proofs.Common.{◌≡◌, ℕ, ◌<◌, true, List, [], ◌++◌, length, take, sym, refl, ap, ◌∙◌, subst, arith, length-take}
+use Rattle.std.proofs.Common.{◌≡◌, ℕ, ◌<◌, ◌/◌, ◌%◌, ◌==◌, ◌&&◌, nat_lt, true, List, [], ◌++◌, length, take, sym, refl, ap, ◌∙◌, subst, arith, length-take}
+use Rattle.std.proofs.Math.Nat.{div-one, mod-one}
 use Rattle.std.proofs.lemmas.Bool.{lt-ltb}
 use Rattle.host.specs.Meaning.{Fixed, Values}
 use Rattle.roll.specs.Calls.{Setting, setting, State, made}
@@ -78,7 +79,10 @@ module _ (all : List ℕ) (lawful : Lawful stage all_zero (rehearsed_calls stage
 
   stage_holds : (a : ℕ) → a < stamp_count → stage.host.held a ≡ true
   unfolding stage
-  stage_holds a lt = lt-ltb a stamp_count lt
+  stage_holds a lt =
+      let rest : a % 1 ≡ 0 = mod-one a in
+      let place : a / 1 ≡ a = div-one a in
+      ap (λ (k : ℕ). (k == 0) && nat_lt (a / 1) stamp_count) rest ∙ ap (λ (k : ℕ). nat_lt k stamp_count) place ∙ lt-ltb a stamp_count lt
 
   pub same_stamps : (a : ℕ) → a < stamp_count →
       (history stage all_zero (rehearsed_calls stage all rounds 0 start)).state.values.at a ≡ (history stage all_zero (rehearsed_calls stage all rounds 0 start)).serial a

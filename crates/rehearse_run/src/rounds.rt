@@ -46,6 +46,7 @@ fn note_fed(lines: &mut Vec<Line>, fed: Fed) -> Result<(), AllocError>
 
 impl Session {
     // Makes one turn and notes its line: the seat of the task that has run, or the end where no task is ready.
+    // Kept: that the setting stays is said of each method by one word; no value holds a relation of old and new.
     fn take_turn(&mut self) -> Result<Next, AllocError>
         ensures turned { IfOk result (λ next. Turned (turn_answer (setting_at self.old) (state_at self.old)) (lines_at self.old) next (lines_at self.new)) }
         ensures after { state_at self.new ≡ state_after (setting_at self.old) (state_at self.old) (turn_calls (setting_at self.old) (state_at self.old)) }

@@ -10,6 +10,7 @@ use std::alloc::{AllocError, Global};
 
 // A manager with this many seats and version places, at most 256 and 512, and no task, for this host. After every list of calls on the
 // two the law holds.
+// Kept: the interface of the makers names two plain numbers, as a rule of the project.
 pub fn new_manager<H: Host>(
     heap: Global,
     host: &H,

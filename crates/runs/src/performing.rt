@@ -12,7 +12,7 @@ use host::Host;
 use manager::Manager;
 
 // Makes the call, whichever it is. A refusal changes nothing.
-// Kept: what stays (fixed, tables, refused) is said of each function by itself, so that a reader of one needs no other.
+// Kept: a word for what stays (fixed, tables, refused) would have to be looked up at each function; so each says it in full.
 pub fn perform<H: Host>(
     manager: &mut Manager,
     host: &mut H,
@@ -37,6 +37,7 @@ pub fn perform<H: Host>(
             .take()
             .map(|(seat, kind, name)| Answer::Taken { seat, kind, name }),
         Call::Step { seat } => manager.step(host, *seat).map(|step| match step {
+            // Kept: step answers plain numbers, by a rule of the project; here they get names.
             (access, 0) => Answer::Brought { access },
             (access, _) => Answer::Put { access },
         }),
