@@ -1,5 +1,5 @@
 // The fields of a message, read one after another.
-ghost use Rattle.std.specs.Prelude.{◌≡◌, ℕ, ◌+◌, ◌-◌, ◌*◌, ◌<◌, ◌≤◌, [], ◌∷◌, length, take, Err, IfOk};
+ghost use Rattle.std.specs.Prelude.{◌≡◌, ℕ, ◌+◌, ◌-◌, ◌*◌, ◌<◌, ◌≤◌, [], ◌∷◌, length, Err, IfOk};
 ghost use Rattle.layout.specs.Reading.{read};
 
 use crate::kind::Kind;
@@ -51,6 +51,7 @@ impl<'a> Fields<'a> {
     }
 
     // The next field, of N bytes. The place moves behind it; or it reaches beyond the end, and the place stays.
+    // Kept: each method says by one word that it is still the same message; no value holds a relation of old and new.
     fn field<const N: usize>(&mut self) -> Result<[u8; N], StreamFault>
         ensures same { SameMessage self.old self.new }
         ensures read { FieldRead (number N) value N self.old.bytes.now self.old.start self.old.place.now.at result self.new.place.now.at }
@@ -112,17 +113,16 @@ impl<'a> Fields<'a> {
         Ok(kind)
     }
 
-    // The addresses, of which there are n.
-    fn addresses(&mut self, n: usize) -> Result<[u64; MAX_ACCESSES], StreamFault>
-        requires { n ≤ max_accesses }
+    // An address for each place of the list.
+    fn addresses(&mut self, list: &mut [u64]) -> Result<(), StreamFault>
         ensures same { SameMessage self.old self.new }
-        ensures read { ListRead (addresses n) (take n) (8 * n) self.old.bytes.now self.old.start self.old.place.now.at result self.new.place.now.at }
+        ensures length { length list.new ≡ length list.old }
+        ensures read { ListRead (addresses (length list.old)) (λ _. list.new) (8 * length list.old) self.old.bytes.now self.old.start self.old.place.now.at result self.new.place.now.at }
     {
-        let mut list = [0; MAX_ACCESSES];
-        for slot in &mut list[..n] {
+        for slot in list {
             *slot = u64::from_le_bytes(self.field()?);
         }
-        Ok(list)
+        Ok(())
     }
 
     // A direction for each of the addresses. The two together are pushed to the task.
@@ -157,8 +157,10 @@ impl<'a> Fields<'a> {
         }
         let name = u32::from_le_bytes(self.field()?);
         let kind = u32::from_le_bytes(self.field()?);
-        let list = self.addresses(n)?;
-        self.directions(&list[..n], Task::new(name, kind))
+        let mut room = [0; MAX_ACCESSES];
+        let list = &mut room[..n];
+        self.addresses(list)?;
+        self.directions(list, Task::new(name, kind))
     }
 }
 

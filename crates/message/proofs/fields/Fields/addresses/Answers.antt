@@ -1,5 +1,5 @@
 use Rattle.std.proofs.Common.{◌≡◌, ℕ, suc, ◌+◌, ◌-◌, ◌<◌, ◌≤◌, List, length, take, drop, set, Ok, sym, ap, ◌∙◌, arith, rules, length-set}
-use Rattle.std.proofs.lemmas.List.{take_more_set, take-append-le}
+use Rattle.std.proofs.lemmas.List.{take_more_set, take_all}
 use Rattle.std.proofs.lemmas.Result.{err_from_is_err_and}
 use Rattle.layout.specs.Reading.{number, addresses}
 use Rattle.message.proofs.Numbers.{value_all}
@@ -9,7 +9,7 @@ use Rattle.message.proofs.fields.Fields.addresses.Goals as goal
 pub returns-in_err-field-clause-read : goal.returns-in_err-field-clause-read
 returns-in_err-field-clause-read c =
     let p = err_from_is_err_and c.from_residual.result c.from_residual.ensures.1 in
-    let n = c.args.n in
+    let n = length c.args.list.now in
     let i = c.loop-slot.slot-index in
     let at = c.loop-slot.self.place.now.at in
     let k = at - c.loop-slot.self.start in
@@ -21,7 +21,7 @@ returns-in_err-field-clause-read c =
 
 pub loop-slot-preserved : goal.loop-slot-preserved
 loop-slot-preserved c =
-    let n = c.args.n in
+    let n = length c.args.list.now in
     let i = c.loop-slot.slot-index in
     let items = c.loop-slot.slot-items in
     let at = c.loop-slot.self.place.now.at in
@@ -53,21 +53,20 @@ loop-slot-preserved c =
 
 pub returns : goal.returns
 returns c =
-    let n = c.args.n in
+    let n = length c.args.list.now in
     let i = c.loop-slot.slot-index in
     let items = c.loop-slot.slot-items in
     let at = c.loop-slot.self.place.now.at in
     let bs = drop at c.loop-slot.self.bytes.now in
-    let all : i ≡ n = omega arith in
     let none : n - i ≡ 0 = omega arith in
-    let le : n ≤ length items = omega arith in
+    let whole : length items ≤ i = omega arith in
     record {
       same = c.loop-slot.invariant.same;
+      length = c.loop-slot.invariant.long;
       read = (
-        rw take-append-le
-            (c.loop-slot.invariant.read ∙ ap (λ (m : ℕ). prefixed (take i items) (addresses m (at - c.loop-slot.self.start) bs)) none
-            ∙ prefixed_all (take i items) bs ∙ ap (λ (m : ℕ). Ok (take m items, bs)) all
-            ∙ ap (λ (b : List ℕ). Ok (take n items, drop at b)) c.loop-slot.invariant.same.1),
+        c.loop-slot.invariant.read ∙ ap (λ (m : ℕ). prefixed (take i items) (addresses m (at - c.loop-slot.self.start) bs)) none
+            ∙ prefixed_all (take i items) bs ∙ ap (λ (xs : List ℕ). Ok (xs, bs)) (take_all i items whole)
+            ∙ ap (λ (b : List ℕ). Ok (items, drop at b)) c.loop-slot.invariant.same.1,
         omega arith,
         omega (arith, c.loop-slot.self.inside, ap length c.loop-slot.invariant.same.1),
       );
