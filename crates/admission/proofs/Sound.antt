@@ -25,11 +25,6 @@ pub passes_sound : (f : Option ManagerFault) → ◌≡◌ {A = Result (Unit {0}
 passes_sound None e = refl
 passes_sound (Some fault) e = absurd cc
 
--- and one that fails has this one
-pub fails_at : (f : Option ManagerFault) (fault : ManagerFault) → ◌≡◌ {A = Result (Unit {0}) ManagerFault} (Err fault) (unless f) → f ≡ Some fault
-fails_at None fault e = absurd cc
-fails_at (Some other) fault e = cc
-
 no_first : (b : Bool) (fault : ManagerFault) (next : Option ManagerFault) → cond b (Some fault) next ≡ None → next ≡ None
 no_first true fault next e = absurd cc
 no_first false fault next e = e

@@ -49,10 +49,6 @@ fewer_left h bytes place place' ls ls' w w' n =
     ∙ ap (λ (k : ℕ). length (layout n.message) + k) (length-drop place' bytes) in
     omega arith
 
--- nothing is run yet
-pub progress_none : {V : Type 0} (h : Fixed V) (bytes : List ℕ) (w : Values V) → Progress h bytes 0 [] w w
-progress_none h bytes w = record { laid = refl; moved = refl; lines = refl; values = refl; all_values = refl }
-
 -- one message more is run
 pub progress_more : {V : Type 0} (h : Fixed V) (bytes : List ℕ) (place place' : ℕ) (ls ls' : List (Line V)) (w0 w w' : Values V) →
     Progress h bytes place ls w0 w → Next h bytes place place' ls ls' w w' → Progress h bytes place' ls' w0 w'

@@ -15,6 +15,7 @@ const CAPACITY: usize = 256;
 
 // The elements stand in those of the slots that are in use.
 // Kept: a ring has fixed memory of its own and is copied without asking for any; the rings of the libraries are on the heap.
+// Kept: a ring and a `queue::Line` share their `Window`, and differ in whose memory the slots are.
 #[derive(Copy)]
 pub struct Ring<T: Copy> {
     slots: [T; CAPACITY],

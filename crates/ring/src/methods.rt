@@ -33,7 +33,7 @@ impl<T: Copy> Ring<T> {
     }
 
     // Puts an element at the end, unless there is one in every slot. Was it put in?
-    // Kept: a bool as that of `HashSet::insert`: there is one way to refuse and no value to hand back.
+    // Kept: an element is Copy, so the caller still has what was refused, and there is one way to refuse.
     pub fn push(&mut self, x: T) -> bool
         ensures answer { result ≡ nat_lt (length (contents_of self.old)) capacity }
         ensures contents { contents_of self.new ≡ (if result then contents_of self.old ++ (x ∷ []) else contents_of self.old) }

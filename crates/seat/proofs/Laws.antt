@@ -10,7 +10,8 @@ use Rattle.seat.specs.Phases.{reads_at, writes_at, address_at, steps_in, sound_p
 use Rattle.seat.specs.declared.Standing.{Standing}
 use Rattle.seat.specs.declared.Standing.TheVariants.{Running}
 use Rattle.seat.specs.Laws.{PhasesAreTheSteps}
-use Rattle.seat.proofs.Next.{Arrives, arrives, count_low, passes_low, numbered_here, count_here}
+use Rattle.order.proofs.Left.{numbered_few}
+use Rattle.seat.proofs.Next.{Arrives, arrives, passes_low, numbered_here, count_here}
 
 module _ (xs : List Access) where
   -- the steps of the next put phase are the puts from number k on
@@ -47,11 +48,11 @@ module _ (xs : List Access) where
       let q = bring_is i n h in
       let lt : i < length xs = passes_low reads xs i q.0 in
       let long : length (take i xs) ≡ i = simp length-take (omega arith) in
-      (lt, omega (arith, q.1, long, count_low reads 0 (take i xs)))
+      (lt, omega (arith, q.1, long, numbered_few reads 0 (take i xs)))
 
   -- a sound put phase has one of the task's accesses, and no more values than there are accesses
   pub put_low : (i n : ℕ) → sound_phase xs (Put i n) ≡ true → (i < length xs) × (n ≤ length xs)
-  put_low i n h = let q = put_is i n h in (passes_low writes xs i q.0, omega (arith, q.1, count_low reads 0 xs))
+  put_low i n h = let q = put_is i n h in (passes_low writes xs i q.0, omega (arith, q.1, numbered_few reads 0 xs))
 
   -- the phase after a bring, by the number of the access after it
   pub bring_phase-add : (i n : ℕ) → bring_phase xs (n + 1) (next_from reads (i + 1) (drop (i + 1) xs)) ≡ after_bring xs i n

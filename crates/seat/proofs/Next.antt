@@ -1,5 +1,5 @@
 -- The next access that passes a test: what is found, how many accesses pass before it, and how a search by position finds it. Assumes nothing.
-use Rattle.std.proofs.Common.{◌≡◌, ℕ, zero, suc, ◌+◌, ◌<◌, ◌≤◌, Bool, true, false, cond, List, [], ◌∷◌, ◌++◌, length, get_or, take, drop, Some, None, Option, option_map, sym, refl, ap, ◌∙◌, suc-add, zero-add, arith, take-append-drop, drop-cons, take-suc, drop-drop, take-add}
+use Rattle.std.proofs.Common.{◌≡◌, ℕ, zero, suc, ◌+◌, ◌<◌, Bool, true, false, cond, List, [], ◌∷◌, ◌++◌, length, get_or, take, drop, Some, None, Option, option_map, sym, refl, ap, ◌∙◌, suc-add, zero-add, arith, take-append-drop, drop-cons, take-suc, drop-drop, take-add}
 use Rattle.std.specs.List.{position_from}
 use Rattle.task.specs.declared.Access.{Access}
 use Rattle.task.specs.Access.{Numbered, keep, numbered}
@@ -24,16 +24,6 @@ keep_more false u us vs n e = e
 pub count_append : (p : Access → Bool) (i : ℕ) (xs ys : List Access) → length (numbered p i (xs ++ ys)) ≡ length (numbered p i xs) + length (numbered p 0 ys)
 count_append p i [] ys = same_count p i 0 ys ∙ sym (zero-add (length (numbered p 0 ys)))
 count_append p i (x ∷ xs) ys = keep_more (p x) _ (numbered p (suc i) (xs ++ ys)) (numbered p (suc i) xs) _ (count_append p (suc i) xs ys)
-
--- an element kept or not
-keep_low : (b : Bool) (u : Numbered) (us : List Numbered) (n : ℕ) → length us ≤ n → length (keep b u us) ≤ suc n
-keep_low true u us n h = omega arith
-keep_low false u us n h = omega arith
-
--- no more accesses pass than there are
-pub count_low : (p : Access → Bool) (i : ℕ) (xs : List Access) → length (numbered p i xs) ≤ length xs
-count_low p i [] = omega arith
-count_low p i (x ∷ xs) = keep_low (p x) _ (numbered p (suc i) xs) (length xs) (count_low p (suc i) xs)
 
 -- an access that passes is one of the list
 pub passes_low : (p : Access → Bool) (xs : List Access) (i : ℕ) → first_passes p (drop i xs) ≡ true → i < length xs

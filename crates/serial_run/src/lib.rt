@@ -3,8 +3,8 @@
 
 mod text;
 
-ghost use Rattle.serial_run.specs.Job.{Reports};
-ghost use Rattle.std.specs.Prelude.{IfOk};
+ghost use Rattle.serial_run.specs.Job.{max_input, Reports};
+ghost use Rattle.std.specs.Prelude.{◌≡◌, IfOk, take};
 
 use one_at_a_time::{Journal, run_stream};
 use stamp_host::StampHost;
@@ -30,8 +30,15 @@ pub fn run(heap: Global, bytes: &[u8]) -> Result<Report, AllocError>
     ensures { IfOk result (λ p. Reports bytes.now p) }
 {
     let mut host = StampHost::zeros(heap, STAMPS)?;
-    let looked_at = bytes.len().min(MAX_INPUT);
-    let journal = run_stream(heap, &mut host, &bytes[0..looked_at]);
+    let journal = run_stream(heap, &mut host, looked_at(bytes));
     let cut = bytes.len() > MAX_INPUT;
     Ok(Report { journal, host, cut })
+}
+
+// The bytes of a stream that are looked at: the first 65,536, or all if there are no more.
+pub fn looked_at(bytes: &[u8]) -> &[u8]
+    ensures { result.now ≡ take max_input bytes.now }
+{
+    let count = bytes.len().min(MAX_INPUT);
+    &bytes[..count]
 }

@@ -17,7 +17,3 @@ module _ (p : Access → Bool) (xs : List Access) (i : ℕ) (d : Access) (lt : i
   -- it does not, so the answer is that for those behind it
   pub some_later : p (get_or xs i d) ≡ false → some_access p xs ≡ some_access p (drop (i + 1) xs)
   some_later e = rw add-one (so_far ∙ ap (some_access p) (drop-cons xs i d lt) ∙ ap (λ (b : Bool). b || some_access p (drop (suc i) xs)) e)
-
--- none is left
-pub some_none : (p : Access → Bool) (xs : List Access) (i : ℕ) → length xs ≤ i → some_access p xs ≡ some_access p (drop i xs) → false ≡ some_access p xs
-some_none p xs i le so_far = sym (so_far ∙ ap (some_access p) (drop_all i xs le))
