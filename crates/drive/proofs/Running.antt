@@ -1,6 +1,5 @@
 -- The steps that are left to a seat, done one after another. Assumes nothing.
 use Rattle.std.proofs.Common.{◌≡◌, ℕ, suc, Bool, true, false, cond, [], ◌∷◌, Some, None, Ok, Err, Option, Result, sym, refl, ap, ◌∙◌, arith}
-use Rattle.fault.specs.declared.ManagerFault.{ManagerFault}
 use Rattle.roll.specs.Roll.{Standing, waiting, ready, running, Entry, Roll, sits, stand, find, change}
 use Rattle.roll.specs.Calls.{Setting, State, step, stepped, stepped_at, perform}
 use Rattle.roll.specs.Built.{left_by, state_after, times, steps_at}
@@ -42,19 +41,6 @@ module _ {V : Type 0} (s : ℕ) (m : Setting V) (b : State V) where
       go (running []) f q = absurd (ok_err p _ q)
       go (running (σ ∷ ss)) f q = ap suc (sym (ap steps_at (found_changed s (running ss) b.roll (stand (running (σ ∷ ss)) e) f)))
 
-  -- a step that is refused: none is left
-  none_at : (o : Option Entry) (fault : ManagerFault) → Err fault ≡ step_answer (stepped_at m.host b s o) →
-      (steps_at o ≡ 0) × (left_by b (stepped_at m.host b s o) ≡ b)
-  none_at None fault q = (refl, refl)
-  none_at (Some e) fault q = go e.standing q
-    where
-      go : (st : Standing) → Err fault ≡ step_answer (stepped m.host b s e.job st) →
-          (steps_at (Some (stand st e)) ≡ 0) × (left_by b (stepped m.host b s e.job st) ≡ b)
-      go waiting q = (refl, refl)
-      go ready q = (refl, refl)
-      go (running []) q = (refl, refl)
-      go (running (σ ∷ ss)) q = absurd (ok_err _ fault (sym q))
-
   -- after a step that succeeds one step less is left, and what is left comes to the same
   pub one_fewer : (p : ℕ × ℕ) → Ok p ≡ step_answer (perform m b (step s)) → (d : State V) → d ≡ left_by b (perform m b (step s)) → left_to s b ≡ suc (left_to s d)
   one_fewer p q d e = fewer_at (find s b.roll) p refl q ∙ ap (λ (x : State V). suc (left_to s x)) (sym e)
@@ -62,8 +48,3 @@ module _ {V : Type 0} (s : ℕ) (m : Setting V) (b : State V) where
   pub same_done : (p : ℕ × ℕ) → Ok p ≡ step_answer (perform m b (step s)) → (d : State V) → d ≡ left_by b (perform m b (step s)) → all_done s m d ≡ all_done s m b
   same_done p q d e =
       ap (λ (x : State V). state_after m x (times (left_to s d) (step s))) e ∙ ap (λ (k : ℕ). state_after m b (times k (step s))) (sym (one_fewer p q d e))
-
-  -- after one that is refused all are done
-  pub done_here : (fault : ManagerFault) → Err fault ≡ step_answer (perform m b (step s)) → (d : State V) → d ≡ left_by b (perform m b (step s)) → d ≡ all_done s m b
-  done_here fault q d e =
-      e ∙ (none_at (find s b.roll) fault q).1 ∙ ap (λ (k : ℕ). state_after m b (times k (step s))) (sym (none_at (find s b.roll) fault q).0)

@@ -1,4 +1,3 @@
-mod Noting
 mod Going
 mod Looping
 mod Front
