@@ -6,6 +6,7 @@ use host::ReadBack;
 use stamp_host::StampHost;
 
 // Do two hosts hold the same stamps?
+// Kept: an equality of hosts would compare what is held aside too, and a host answers its values by address alone.
 pub fn same_stamps(one: &StampHost, other: &StampHost) -> bool
     ensures { IsTrue result ↔ SameStamps one.now other.now }
 {

@@ -1,6 +1,5 @@
 mod Going
 mod Looping
-mod Front
 mod Whole
 mod Shrinks
 mod Ending

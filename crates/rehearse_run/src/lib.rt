@@ -13,6 +13,7 @@ pub use line::{Line, line_bytes};
 use message::Reader;
 use rounds::Session;
 use runs::new_manager;
+use serial_run::looked_at;
 pub use serial_run::{MAX_INPUT, STAMPS};
 use stamp_host::StampHost;
 use std::alloc::{AllocError, Global};
@@ -54,8 +55,7 @@ pub fn rehearse(heap: Global, bytes: &[u8]) -> Result<Rehearsal, AllocError>
         host,
         lines,
     };
-    let looked_at = bytes.len().min(MAX_INPUT);
-    let mut reader = Reader::new(&bytes[0..looked_at]);
+    let mut reader = Reader::new(looked_at(bytes));
     session.feed_all(&mut reader)?;
     let Session { host, lines, .. } = session;
     Ok(Rehearsal { lines, host })

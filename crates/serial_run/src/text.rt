@@ -91,6 +91,7 @@ fn write_end<W: fmt::Write>(f: &mut fmt::Formatter<W>, place: usize, end: &End) 
 }
 
 // The stamps of a host that are not zero, a line each.
+// Kept: a host answers its values by address alone, so the chain begins with the addresses.
 #[derive(Clone, Copy)]
 pub struct StampsLeft<'a> {
     pub host: &'a StampHost,

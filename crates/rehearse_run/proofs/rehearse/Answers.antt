@@ -1,4 +1,4 @@
-use Rattle.std.proofs.Common.{◌≡◌, ℕ, ◌-◌, min, length, take, vec_items, sym, ap, ◌∙◌, subst, arith}
+use Rattle.std.proofs.Common.{◌≡◌, ℕ, take, vec_items, sym, ap, ◌∙◌, subst}
 use Rattle.host.specs.Meaning.{Values}
 use Rattle.roll.specs.Calls.{Setting, State}
 use Rattle.roll.specs.Rehearsal.{rehearsed}
@@ -10,7 +10,6 @@ use Rattle.runs.specs.Obeys.{Lawful}
 use Rattle.rehearse_run.specs.Ends.{Ends, Ended}
 use Rattle.rehearse_run.specs.Made.{rehearsed_calls}
 use Rattle.rehearse_run.specs.Job.{stage, start}
-use Rattle.rehearse_run.proofs.Front.{take_most}
 use Rattle.rehearse_run.proofs.Whole.{on_stage, at_start, all_ends, whole_lines, whole_state, obeys_here, calls_leave, rests, same_stamps}
 use Rattle.rehearse_run.proofs.rehearse.Goals as goal
 
@@ -26,9 +25,7 @@ returns c =
     let ls = lines_of (vec_items c.new-lines.result) in
     let last = lines_at c.feed_all.new.self in
     let z = state_at c.feed_all.new.self in
-    let looked = c.min-looked_at.result - 0 in
-    let most : looked ≡ min (length bytes) 65536 = omega (arith, c.min-looked_at.ensures) in
-    let front : reader.bytes.now ≡ take 65536 bytes = c.new-reader.ensures.bytes ∙ take_most bytes 65536 looked most in
+    let front : reader.bytes.now ≡ take 65536 bytes = c.new-reader.ensures.bytes ∙ c.looked_at.ensures in
     let same : n ≡ stage = on_stage n h c.in_ok-manager.ensures.setting c.in_ok-host.ensures.fixed in
     let new : b ≡ start = at_start b h w c.in_ok-manager.ensures.state c.in_ok-host.ensures.values in
     let went = c.in_ok-feed_all.ensures.went in
