@@ -11,27 +11,45 @@ use task::{Access, Direction};
 // What a word of a case asks for, with the words behind it.
 #[derive(Drop)]
 pub enum Request<'a> {
+    Call(OwnedCall),
+    Action(Action),
+    // Feed the messages of these bytes, in hexadecimal, until one is refused.
+    Feed(&'a str),
+}
+
+// One of the four calls of the manager.
+// Kept: a Call borrows its accesses; those of a case are read from its words and stay for the second run.
+#[derive(Drop)]
+pub enum OwnedCall {
     Submit {
         name: u32,
         kind: u32,
         accesses: Vec<Access>,
     },
     Take,
-    Step(u16),
-    Finish(u16),
+    Step {
+        seat: u16,
+    },
+    Finish {
+        seat: u16,
+    },
+}
+
+// A call that is built of calls, or one of a line.
+#[derive(Clone, Copy)]
+pub enum Action {
     Turn,
     Dispatch,
     // Take the first seat out of the work line.
     Fetch,
     // Put a notice for this seat into the notice line.
-    Send(u16),
+    Send { seat: u16 },
     Settle,
-    // Feed the messages of these bytes, in hexadecimal, until one is refused.
-    Feed(&'a str),
 }
 
 impl<'a> Request<'a> {
     // The request that begins with the word.
+    // Kept: no value holds that the words only become fewer, and a struct around them would say it of each of its methods.
     pub fn read(
         heap: Global,
         word: &str,
@@ -44,20 +62,29 @@ impl<'a> Request<'a> {
                 let name = number(words, "a name or a kind is missing")?;
                 let kind = number(words, "a name or a kind is missing")?;
                 let accesses = accesses(heap, words)?;
-                Ok(Request::Submit {
+                Ok(Request::Call(OwnedCall::Submit {
                     name,
                     kind,
                     accesses,
-                })
+                }))
             }
-            "take" => Ok(Request::Take),
-            "step" => Ok(Request::Step(number(words, "a seat is missing")?)),
-            "finish" => Ok(Request::Finish(number(words, "a seat is missing")?)),
-            "turn" => Ok(Request::Turn),
-            "dispatch" => Ok(Request::Dispatch),
-            "fetch" => Ok(Request::Fetch),
-            "send" => Ok(Request::Send(number(words, "a seat is missing")?)),
-            "settle" => Ok(Request::Settle),
+            "take" => Ok(Request::Call(OwnedCall::Take)),
+            "step" => {
+                let seat = number(words, "a seat is missing")?;
+                Ok(Request::Call(OwnedCall::Step { seat }))
+            }
+            "finish" => {
+                let seat = number(words, "a seat is missing")?;
+                Ok(Request::Call(OwnedCall::Finish { seat }))
+            }
+            "turn" => Ok(Request::Action(Action::Turn)),
+            "dispatch" => Ok(Request::Action(Action::Dispatch)),
+            "fetch" => Ok(Request::Action(Action::Fetch)),
+            "send" => {
+                let seat = number(words, "a seat is missing")?;
+                Ok(Request::Action(Action::Send { seat }))
+            }
+            "settle" => Ok(Request::Action(Action::Settle)),
             "feed" => Ok(Request::Feed(words.next().context("bytes are missing")?)),
             _ => Err(anyhow!("a word is not known")),
         }
@@ -66,19 +93,28 @@ impl<'a> Request<'a> {
     // The call, where it is one of the four calls of the manager.
     pub fn call(&self) -> Option<Call<'_>> {
         match self {
-            Request::Submit {
+            Request::Call(call) => Some(call.borrowed()),
+            Request::Action(_) | Request::Feed(_) => None,
+        }
+    }
+}
+
+impl OwnedCall {
+    // The call, with its accesses lent.
+    pub fn borrowed(&self) -> Call<'_> {
+        match self {
+            OwnedCall::Submit {
                 name,
                 kind,
                 accesses,
-            } => Some(Call::Submit {
+            } => Call::Submit {
                 name: *name,
                 kind: *kind,
                 accesses: accesses.as_slice(),
-            }),
-            Request::Take => Some(Call::Take),
-            Request::Step(seat) => Some(Call::Step { seat: *seat }),
-            Request::Finish(seat) => Some(Call::Finish { seat: *seat }),
-            _ => None,
+            },
+            OwnedCall::Take => Call::Take,
+            OwnedCall::Step { seat } => Call::Step { seat: *seat },
+            OwnedCall::Finish { seat } => Call::Finish { seat: *seat },
         }
     }
 }

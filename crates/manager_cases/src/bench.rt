@@ -1,5 +1,5 @@
 // A manager with all that a case hands to it.
-use crate::asked::Request;
+use crate::asked::Action;
 use crate::shown::{Outcome, Refusal};
 use cases::from_hex;
 use drive::{dispatch, feed, settle, turn};
@@ -25,15 +25,14 @@ impl Bench<'_> {
         perform(&mut self.manager, &mut self.host, call)
     }
 
-    // Makes a call that is built of calls, or puts into a line or takes out of it; none for another request.
-    pub fn make(&mut self, request: &Request<'_>) -> Option<Result<Outcome, ManagerFault>> {
-        match request {
-            Request::Turn => Some(turn(&mut self.manager, &mut self.host).map(Outcome::Turned)),
-            Request::Dispatch => Some(self.dispatch()),
-            Request::Fetch => Some(self.work.pop().map(|seat| Outcome::Fetched { seat })),
-            Request::Send(seat) => Some(self.send(*seat)),
-            Request::Settle => Some(self.settle()),
-            _ => None,
+    // Makes a call that is built of calls, or puts into a line or takes out of it.
+    pub fn make(&mut self, action: Action) -> Result<Outcome, ManagerFault> {
+        match action {
+            Action::Turn => turn(&mut self.manager, &mut self.host).map(Outcome::Turned),
+            Action::Dispatch => self.dispatch(),
+            Action::Fetch => self.work.pop().map(|seat| Outcome::Fetched { seat }),
+            Action::Send { seat } => self.send(seat),
+            Action::Settle => self.settle(),
         }
     }
 

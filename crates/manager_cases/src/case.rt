@@ -52,20 +52,20 @@ pub fn run_case(rt: &HostRuntime, words: &mut SplitWhitespace<'_>) -> anyhow::Re
     let mut answers = Vec::new(heap);
     while let Some(word) = words.next() {
         let asked = Request::read(heap, word, words)?;
-        if let Some(call) = asked.call() {
-            let answer = bench.perform(&call);
-            show(rt, answer)?;
-            answers.push(answer)?;
-        } else if let Request::Feed(text) = &asked {
-            bench.feed_all(rt, text)?;
-        } else if let Some(answer) = bench.make(&asked) {
-            show(rt, answer)?;
+        match &asked {
+            Request::Call(call) => {
+                let answer = bench.perform(&call.borrowed());
+                show(rt, answer)?;
+                answers.push(answer)?;
+            }
+            Request::Action(action) => show(rt, bench.make(*action))?,
+            Request::Feed(text) => bench.feed_all(rt, text)?,
         }
         requests.push(asked)?;
     }
     let stamps = StampsLeft { host: &bench.host };
     print!(rt; "{stamps}")?;
-    if answers.len() == requests.len() {
+    if requests.iter().all(|asked| asked.call().is_some()) {
         let calls: Vec<Call<'_>> = requests
             .iter()
             .filter_map(|asked| asked.call())

@@ -15,7 +15,7 @@ fn main(rt: HostRuntime) -> anyhow::Result<()> {
     run_cases(&rt)
 }
 
-// Kept: behind the label these lines have other words than those of a stream's case, so that only the reading of lines is the same.
+// Kept: cases::run_cases reads each line as a StreamCase, whose contract names its three words; these lines go on with other words.
 fn run_cases(rt: &HostRuntime) -> anyhow::Result<()> {
     for line in rt.lines(rt.alloc()) {
         let line = line?;

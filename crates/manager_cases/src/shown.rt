@@ -12,7 +12,7 @@ pub struct Refusal<F> {
     fault: F,
 }
 
-// Kept: a trait of all that has a number and a place would want an impl for each of the two types as well.
+// Kept: number and place are methods of each fault that callers use without an import, and only two of the five are shown here.
 impl From<ManagerFault> for Refusal<ManagerFault> {
     fn from(fault: ManagerFault) -> Refusal<ManagerFault> {
         Refusal {
