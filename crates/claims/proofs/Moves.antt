@@ -3,7 +3,7 @@ use Rattle.std.proofs.Common.{◌≡◌, ℕ, zero, suc, ◌+◌, ◌-◌, ◌<�
 use Rattle.std.proofs.lemmas.Bool.{cases_eq, ne_eqb, eq-eqb, cond-true, cond-false}
 use Rattle.roll.specs.Tables.{tally}
 use Rattle.claims.specs.declared.Claim.{Claim}
-use Rattle.claims.specs.Claims.{State, claims, vacant, neither, may, settle, less, released, first_may, first_moves, promotes, moves, dropped, settled}
+use Rattle.claims.specs.Claims.{State, claims, may, settle, less, released, first_may, first_moves, promotes, moves, dropped, settled}
 
 -- if no claim is the next to hold, all that may hold do
 pub none_settled : (st : State) → promotes st ≡ None → (settled st ≡ st) × (moves st ≡ st)

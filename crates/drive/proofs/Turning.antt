@@ -4,7 +4,7 @@ use Rattle.fault.specs.declared.ManagerFault.{ManagerFault}
 use Rattle.fault.specs.declared.ManagerFault.TheVariants.{LineEmpty}
 use Rattle.order.specs.Steps.{Step, steps}
 use Rattle.roll.specs.Roll.{Standing, waiting, ready, running, Entry, stand, find}
-use Rattle.roll.specs.Calls.{Setting, State, Call, take, step, finish, Outcome, refused, succeeded, begun, begun_at, took, stepped_at, finished_at, perform}
+use Rattle.roll.specs.Calls.{Setting, State, take, step, finish, Outcome, refused, succeeded, begun, begun_at, took, stepped_at, finished_at, perform}
 use Rattle.roll.specs.Built.{left_by, state_after, times, steps_at, turn_after, turn_calls, turn_from, turn_answer, with_seat, finish_answer, take_answer, triple_of}
 use Rattle.host.specs.Meaning.{Fixed, Values}
 use Rattle.manager.specs.declared.manager.Manager.{Manager}

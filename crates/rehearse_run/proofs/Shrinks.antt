@@ -9,7 +9,7 @@ use Rattle.roll.proofs.Keeps.{length_wake}
 use Rattle.roll.proofs.Parts.{after-++}
 use Rattle.roll.specs.Roll.{Standing, waiting, ready, running, Entry, Roll, sits, stand, find, change, without}
 use Rattle.roll.specs.Tables.{submit_fault}
-use Rattle.roll.specs.Calls.{Setting, State, Call, take, step, finish, Outcome, refused, succeeded, give_seat, submitted, begun, begun_at, took, stepped, stepped_at, finished, finished_at, perform}
+use Rattle.roll.specs.Calls.{Setting, State, take, step, finish, Outcome, refused, succeeded, give_seat, submitted, begun, begun_at, took, stepped, stepped_at, finished, finished_at, perform}
 use Rattle.roll.specs.Built.{left_by, state_after, times, steps_at, turn_after, turn_calls, with_seat, finish_answer, turn_from, turn_answer, asked}
 
 -- no answer is both

@@ -1,5 +1,5 @@
 -- How many elements a ring holds. Assumes nothing.
-use Rattle.std.proofs.Common.{◌≡◌, ◌≤◌, length, arith}
+use Rattle.std.proofs.Common.{◌≡◌, length}
 use Rattle.queue.proofs.Steps.{length_window}
 use Rattle.ring.specs.Capacity.{capacity}
 use Rattle.ring.specs.Model.{contents_of}
