@@ -89,14 +89,6 @@ impl<'a> Request<'a> {
             _ => Err(anyhow!("a word is not known")),
         }
     }
-
-    // The call, where it is one of the four calls of the manager.
-    pub fn call(&self) -> Option<Call<'_>> {
-        match self {
-            Request::Call(call) => Some(call.borrowed()),
-            Request::Action(_) | Request::Feed(_) => None,
-        }
-    }
 }
 
 impl OwnedCall {

@@ -1,5 +1,5 @@
 // One case.
-use crate::asked::{Request, number};
+use crate::asked::{OwnedCall, Request, number};
 use crate::bench::Bench;
 use crate::shown::show;
 use cases::same_stamps;
@@ -48,28 +48,33 @@ pub fn run_case(rt: &HostRuntime, words: &mut SplitWhitespace<'_>) -> anyhow::Re
         work: Line::new(work_slots.as_mut_slice()),
         notices: Line::new(notice_slots.as_mut_slice()),
     };
-    let mut requests = Vec::new(heap);
+    // The calls that were made, as long as nothing else is asked for.
+    let mut made = Some(Vec::new(heap));
     let mut answers = Vec::new(heap);
     while let Some(word) = words.next() {
-        let asked = Request::read(heap, word, words)?;
-        match &asked {
+        match Request::read(heap, word, words)? {
             Request::Call(call) => {
                 let answer = bench.perform(&call.borrowed());
                 show(rt, answer)?;
-                answers.push(answer)?;
+                if let Some(calls) = &mut made {
+                    calls.push(call)?;
+                    answers.push(answer)?;
+                }
             }
-            Request::Action(action) => show(rt, bench.make(*action))?,
-            Request::Feed(text) => bench.feed_all(rt, text)?,
+            Request::Action(action) => {
+                made = None;
+                show(rt, bench.make(action))?;
+            }
+            Request::Feed(text) => {
+                made = None;
+                bench.feed_all(rt, text)?;
+            }
         }
-        requests.push(asked)?;
     }
     let stamps = StampsLeft { host: &bench.host };
     print!(rt; "{stamps}")?;
-    if requests.iter().all(|asked| asked.call().is_some()) {
-        let calls: Vec<Call<'_>> = requests
-            .iter()
-            .filter_map(|asked| asked.call())
-            .collect(heap)?;
+    if let Some(made) = &made {
+        let calls: Vec<Call<'_>> = made.iter().map(OwnedCall::borrowed).collect(heap)?;
         run_again(rt, sizes, calls.as_slice(), answers.as_slice(), &bench.host)?;
     }
     Ok(())

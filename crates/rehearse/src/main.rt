@@ -1,8 +1,9 @@
 // Reads messages from standard input, does their submissions on a manager over 64 zero stamps, and prints a line for each event.
 #![tactic(auto)]
 
-use rehearse_run::MAX_INPUT;
-use stream_program::serve;
+use rehearse_run::{MAX_INPUT, Rehearsal};
+use std::alloc::{AllocError, Global};
+use stream_program::{Job, serve};
 
 const HELP: &str = "usage: rehearse < MESSAGES
 
@@ -13,8 +14,17 @@ refused, which ends the run, and `end` when the bytes have ended and no task is 
 Where a submission stalls, by 10, 11 or 12, one task runs, and the same message is fed again.
 docs/REHEARSE.md has an example, docs/MESSAGES.md the bytes of a message, docs/REFUSALS.md the numbers of what is refused.";
 
+// The submissions on a manager.
+struct Rehearse;
+
+impl Job for Rehearse {
+    type Report = Rehearsal;
+
+    fn report(heap: Global, bytes: &[u8]) -> Result<Rehearsal, AllocError> {
+        rehearse_run::rehearse(heap, bytes)
+    }
+}
+
 fn main(rt: HostRuntime) -> anyhow::Result<()> {
-    serve(&rt, HELP, MAX_INPUT as u64, |bytes| {
-        rehearse_run::rehearse(rt.alloc(), bytes)
-    })
+    serve::<Rehearse>(&rt, HELP, MAX_INPUT as u64)
 }

@@ -3,11 +3,14 @@
 // that `serial` leaves.
 #![tactic(auto)]
 
-use cases::{run_cases, same_stamps};
+use cases::{CaseJob, run_cases, same_stamps};
 use rehearse_run::Line;
 
-fn main(rt: HostRuntime) -> anyhow::Result<()> {
-    run_cases(&rt, |bytes| {
+// Prints the lines of `rehearse`, and compares the stamps that it leaves.
+struct Rehearse;
+
+impl CaseJob for Rehearse {
+    fn run(rt: &HostRuntime, bytes: &[u8]) -> anyhow::Result<()> {
         let rehearsal = rehearse_run::rehearse(rt.alloc(), bytes)?;
         print!(rt; "{rehearsal}")?;
         if rehearsal.lines.last() == Some(&Line::End) {
@@ -20,5 +23,9 @@ fn main(rt: HostRuntime) -> anyhow::Result<()> {
             rt.println(verdict)?;
         }
         Ok(())
-    })
+    }
+}
+
+fn main(rt: HostRuntime) -> anyhow::Result<()> {
+    run_cases::<Rehearse>(&rt)
 }

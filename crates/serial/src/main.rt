@@ -1,8 +1,9 @@
 // Reads messages from standard input, does every submission in turn, alone, over 64 zero stamps, and prints what was done.
 #![tactic(auto)]
 
-use serial_run::MAX_INPUT;
-use stream_program::serve;
+use serial_run::{MAX_INPUT, Report};
+use std::alloc::{AllocError, Global};
+use stream_program::{Job, serve};
 
 const HELP: &str = "usage: serial < MESSAGES
 
@@ -12,9 +13,18 @@ Prints a line for each task: its name, its kind, what it read and what it wrote;
 Then says whether there were more bytes, how the stream ended, and which stamps are not zero. A message that is refused ends the run.
 docs/MESSAGES.md has the bytes of a message, docs/REFUSALS.md the numbers of what is refused.";
 
+// Every submission in turn, alone.
+struct Serial;
+
+impl Job for Serial {
+    type Report = Report;
+
+    fn report(heap: Global, bytes: &[u8]) -> Result<Report, AllocError> {
+        serial_run::run(heap, bytes)
+    }
+}
+
 fn main(rt: HostRuntime) -> anyhow::Result<()> {
     // One byte more than is looked at, so that the report can say that there were more.
-    serve(&rt, HELP, MAX_INPUT as u64 + 1, |bytes| {
-        serial_run::run(rt.alloc(), bytes)
-    })
+    serve::<Serial>(&rt, HELP, MAX_INPUT as u64 + 1)
 }

@@ -2,12 +2,19 @@
 // hexadecimal (or - for none). Prints the label and what `serial` prints.
 #![tactic(auto)]
 
-use cases::run_cases;
+use cases::{CaseJob, run_cases};
 
-fn main(rt: HostRuntime) -> anyhow::Result<()> {
-    run_cases(&rt, |bytes| {
+// Prints the report of `serial`.
+struct Serial;
+
+impl CaseJob for Serial {
+    fn run(rt: &HostRuntime, bytes: &[u8]) -> anyhow::Result<()> {
         let report = serial_run::run(rt.alloc(), bytes)?;
         print!(rt; "{report}")?;
         Ok(())
-    })
+    }
+}
+
+fn main(rt: HostRuntime) -> anyhow::Result<()> {
+    run_cases::<Serial>(&rt)
 }
