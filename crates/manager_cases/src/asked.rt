@@ -132,7 +132,11 @@ fn accesses(heap: Global, words: &mut SplitWhitespace<'_>) -> anyhow::Result<Vec
             "in" => Direction::In,
             "out" => Direction::Out,
             "inout" => Direction::InOut,
-            _ => return Ok(accesses),
+            _ => {
+                // A case may have many submissions, and none of them grows.
+                accesses.shrink_to_fit();
+                return Ok(accesses);
+            }
         };
         let address = number(words, "an address is missing")?;
         accesses.push(Access { address, direction })?;
