@@ -3,10 +3,11 @@
 --   listed_apart               each seat is listed once
 --   place_low, place_seat      a listed seat stands at its place, which is before the end
 --   listed_before              the listed seats are those below a place and those from it on
+--   below_between              the seats below a later place
 --   below_has, below_not       a listed seat stands below each later place, and below no other
 --   before_place, before_is    the seats below that place are those listed before it
 --   removed_middle             a list without a number
-use Rattle.std.proofs.Common.{◌≡◌, ℕ, suc, ◌<◌, ◌≤◌, true, false, List, ◌∷◌, ◌++◌, Some, None, length, get_or, take, drop, vec_items, sym, ap, ◌∙◌, inl, inr, arith, take-append-drop, get_or-take, length-take}
+use Rattle.std.proofs.Common.{◌≡◌, ℕ, suc, ◌+◌, ◌-◌, ◌<◌, ◌≤◌, true, false, List, ◌∷◌, ◌++◌, Some, None, length, get_or, take, drop, vec_items, sym, ap, ◌∙◌, inl, inr, arith, take-add, take-append-drop, get_or-take, length-take}
 use Rattle.std.proofs.lemmas.Bool.{cases_Bool}
 use Rattle.acceptance.specs.declared.Acceptance.{Acceptance}
 use Rattle.acceptance.specs.Listed.{member, removed, seats_in, below, listed, place_of, end_of, seat_at}
@@ -16,6 +17,10 @@ use Rattle.acceptance.proofs.Places as places
 -- what stands at the places from one on
 abbrev pub from_place : Acceptance → ℕ → List ℕ
 from_place a p = seats_in (drop p (vec_items a.slots))
+
+-- what stands at the places from one on, up to another
+abbrev pub between : Acceptance → ℕ → ℕ → List ℕ
+between a p q = seats_in (take (q - p) (drop p (vec_items a.slots)))
 
 -- the first occurrence of a number is removed
 pub removed_middle : (s : ℕ) (pre post : List ℕ) → member s pre ≡ false → removed s (pre ++ (s ∷ post)) ≡ pre ++ post
@@ -44,6 +49,13 @@ module _ (a : Acceptance) where
   -- the listed seats are those below a place and those from it on
   pub listed_before : (p : ℕ) → listed a ≡ below a p ++ from_place a p
   listed_before p = ap seats_in (sym (take-append-drop p (vec_items a.slots))) ∙ places.seats_append (take p (vec_items a.slots)) (drop p (vec_items a.slots))
+
+  -- the seats below a later place are those below an earlier one and those between
+  pub below_between : (p q : ℕ) → p ≤ q → below a q ≡ below a p ++ between a p q
+  below_between p q le =
+      let xs = vec_items a.slots in
+      let sum : p + (q - p) ≡ q = omega arith in
+      ap (below a) (sym sum) ∙ ap seats_in (take-add p (q - p) xs) ∙ places.seats_append (take p xs) (take (q - p) (drop p xs))
 
   -- a listed seat stands below each later place, and below no other
   pub below_has : (s p : ℕ) → member s (listed a) ≡ true → place_of a s < p → member s (below a p) ≡ true

@@ -1,5 +1,5 @@
 -- What a check that finds no fault says of a task. Assumes nothing.
-use Rattle.std.proofs.Common.{◌≡◌, ℕ, zero, suc, ◌+◌, ◌<◌, Bool, true, false, cond, not, ltb, List, length, Some, None, Ok, Option, Result, refl, ap, ◌∙◌, le_of_suc-le-suc, not-suc-le-zero, arith}
+use Rattle.std.proofs.Common.{◌≡◌, ℕ, zero, suc, ◌+◌, ◌<◌, Bool, true, false, cond, not, ltb, List, length, Some, None, Ok, Err, Option, Result, refl, ap, ◌∙◌, le_of_suc-le-suc, not-suc-le-zero, arith}
 use Rattle.std.proofs.lemmas.Bool.{not-false}
 use Rattle.fault.specs.declared.ManagerFault.{ManagerFault}
 use Rattle.fault.specs.declared.ManagerFault.TheVariants.{TooManyAccesses, RepeatedAddress, NotHeld}
@@ -24,6 +24,11 @@ nowhere p (suc n) i e (suc k) lt =
 pub passes_sound : (f : Option ManagerFault) → ◌≡◌ {A = Result (Unit {0}) ManagerFault} (Ok tt) (unless f) → f ≡ None
 passes_sound None e = refl
 passes_sound (Some fault) e = absurd cc
+
+-- and one that fails has this one
+pub fails_at : (f : Option ManagerFault) (fault : ManagerFault) → ◌≡◌ {A = Result (Unit {0}) ManagerFault} (Err fault) (unless f) → f ≡ Some fault
+fails_at None fault e = absurd cc
+fails_at (Some other) fault e = cc
 
 no_first : (b : Bool) (fault : ManagerFault) (next : Option ManagerFault) → cond b (Some fault) next ≡ None → next ≡ None
 no_first true fault next e = absurd cc

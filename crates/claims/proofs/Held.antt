@@ -58,3 +58,7 @@ dead_queue v a h = none_of (queue a v) (some_queue a v ∙ h)
 -- and nobody holds it or waits
 pub dead_vacant : (v : Roll) (a : ℕ) → live v a ≡ false → map_of v a ≡ vacant
 dead_vacant v a h = ap canon (dead_queue v a h)
+
+-- and so is one that nobody holds
+pub none_holds : (v : Roll) (a : ℕ) → (map_of v a).holders ≡ 0 → map_of v a ≡ vacant
+none_holds v a h = dead_vacant v a (sym (live_held v a) ∙ ap (λ n. ltb 0 n) h)

@@ -3,7 +3,7 @@ use Rattle.std.proofs.Common.{◌≡◌, ℕ, zero, suc, ◌+◌, ◌-◌, ◌<�
 use Rattle.std.proofs.lemmas.Bool.{cases_eq, ne_eqb, eq-eqb, cond-true, cond-false}
 use Rattle.roll.specs.Tables.{tally}
 use Rattle.claims.specs.declared.Claim.{Claim}
-use Rattle.claims.specs.Claims.{State, claims, may, settle, less, released, first_may, first_moves, promotes, moves, dropped, settled}
+use Rattle.claims.specs.Claims.{State, claims, vacant, neither, may, settle, less, released, first_may, first_moves, promotes, moves, dropped, settled}
 
 -- if no claim is the next to hold, all that may hold do
 pub none_settled : (st : State) → promotes st ≡ None → (settled st ≡ st) × (moves st ≡ st)
@@ -65,6 +65,41 @@ stays n wr q x ys e m = (
   ap (first_moves n wr) e ∙ cond-false _ _ _ m
       ∙ ap {B = State} (λ (zs : List Claim). record { holders = n; writing = wr; waiting = zs }) (sym e),
 )
+
+-- if nobody holds the address after the first that waits held if it may, nobody waits
+gone_by : (n : ℕ) (q : List Claim) → (first_moves n false q).holders ≡ 0 → first_moves n false q ≡ vacant
+gone_by n [] z = ap {B = State} (λ (k : ℕ). record { holders = k; writing = false; waiting = [] }) z
+gone_by zero (c ∷ q) z = absurd (omega (arith, z))
+gone_by (suc n) (c ∷ q) z = absurd (never (neither false c.writes) z)
+  where
+    never : (b : Bool) →
+        let goes : State = record { holders = suc (suc n); writing = c.writes; waiting = q } in
+        let stays : State = record { holders = suc n; writing = false; waiting = c ∷ q } in
+        (cond b goes stays).holders ≡ 0 → ⊥
+    never true h = omega (arith, h)
+    never false h = omega (arith, h)
+
+-- after a holder left and the next one holds: if then nobody holds, nobody waits
+pub moves_gone : (st : State) → st.writing ≡ false → (moves st).holders ≡ 0 → moves st ≡ vacant
+moves_gone st w z =
+    let e : moves st ≡ first_moves st.holders false st.waiting = ap (λ b. first_moves st.holders b st.waiting) w in
+    e ∙ gone_by st.holders st.waiting (ap (λ (x : State). x.holders) (sym e) ∙ z)
+
+-- holders stay
+live_by : (n : ℕ) (wr : Bool) (q : List Claim) → 0 < n → (first_moves n wr q).holders ≡ 0 → ⊥
+live_by n wr [] p z = omega (arith, p, z)
+live_by n wr (c ∷ q) p z = never (may n wr c.writes) z
+  where
+    never : (b : Bool) →
+        let goes : State = record { holders = suc n; writing = c.writes; waiting = q } in
+        let stays : State = record { holders = n; writing = wr; waiting = c ∷ q } in
+        (cond b goes stays).holders ≡ 0 → ⊥
+    never true h = omega (arith, h)
+    never false h = omega (arith, p, h)
+
+-- an address that somebody holds does not become one that nobody holds
+pub moves_live : (st : State) → 0 < st.holders → (moves st).holders ≡ 0 → moves st ≡ vacant
+moves_live st p z = absurd (live_by st.holders st.writing st.waiting p z)
 
 -- one less is the difference to 1
 less_is : (n : ℕ) → less n ≡ n - 1

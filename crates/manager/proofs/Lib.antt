@@ -7,6 +7,7 @@ mod Roused
 mod Passed
 mod Awake
 mod Left
+mod Whole
 mod Finishes
 mod Submits
 mod Records

@@ -1,15 +1,11 @@
 -- What a host of stamps means: the stamps at the addresses from 0 on, and the stamps held aside. Assumes nothing.
 use Rattle.std.specs.Prelude.{ℕ, List}
 use Rattle.host.specs.ArrayHost as hosts
-use Rattle.host.specs.Limit.{max_values}
 use Rattle.host.specs.Meaning.{Fixed, Values}
 use Rattle.host.specs.declared.array_host.ArrayHost.{ArrayHost}
 use Rattle.host.specs.declared.work.Work.{Ghosts}
+pub use Rattle.stamp_host.specs.Limit.{max_stamps}
 use Rattle.stamp_host.specs.Rule.{stamp_rule}
-
--- how many stamps a host has at most
-abbrev pub max_stamps : ℕ
-max_stamps = max_values
 
 -- what is fixed of a host that is made of n stamps, or of max_stamps if n is more: it holds the addresses below that
 abbrev pub fixed_for : ℕ → Fixed ℕ

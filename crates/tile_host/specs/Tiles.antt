@@ -1,16 +1,12 @@
 -- What a host of tiles means: the tiles at the multiples of 16 from 0 on, and the tiles held aside. Assumes nothing.
 use Rattle.std.specs.Prelude.{ℕ, List}
 use Rattle.host.specs.ArrayHost as hosts
-use Rattle.host.specs.Limit.{max_values}
 use Rattle.host.specs.Meaning.{Fixed, Values}
 use Rattle.host.specs.declared.array_host.ArrayHost.{ArrayHost}
 use Rattle.host.specs.declared.work.Work.{Ghosts}
+pub use Rattle.tile_host.specs.Limit.{max_tiles}
 use Rattle.tile_host.specs.Rule.{blank, tile_rule}
 use Rattle.tile_host.specs.declared.Tile.{Tile}
-
--- how many tiles a host has at most
-abbrev pub max_tiles : ℕ
-max_tiles = max_values
 
 -- what is fixed of a host that is made of n tiles, or of max_tiles if n is more: it holds an address for each, and its rule
 -- takes no account of the access number

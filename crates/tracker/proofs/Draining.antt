@@ -55,6 +55,10 @@ pub record Draining (t t' : Tracker) (i : ℕ) : Type 0 where
   pub counts : (s : ℕ) → s < 256 → blocked_at t' s + claims s (state_of (lock_at t.table i)).waiting ≡ blocked_at t s + claims s (state_of (lock_at t'.table i)).waiting
   pub owed : (s : ℕ) → s < 256 → claims s (state_of (lock_at t'.table i)).waiting ≤ blocked_at t' s
 
+-- at the start
+pub draining_start : (t : Tracker) (i : ℕ) → Ready t i → Draining t t i
+draining_start t i r = record { tag = refl; rest = record { others = λ j ne. refl; live = refl }; versions = refl; keeps = refl; few = r.few; counts = λ s low. refl; owed = r.owed }
+
 -- one more becomes a holder, and the count of its seat falls
 pub draining_more : (t t' t₁ t'' : Tracker) (i : ℕ) (r : Option ℕ) (seat : ℕ) → Draining t t' i → Lowered t₁ t'' seat →
     r ≡ promotes (state_of (lock_at t'.table i)) → r ≡ Some seat → tag_at t₁.table i ≡ tag_at t'.table i →

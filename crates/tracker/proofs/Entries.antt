@@ -4,6 +4,7 @@ use Rattle.std.specs.List.{AllByRecursion as All}
 use Rattle.std.proofs.lemmas.Bool.{or_parts, or_from, cases_Bool, eqb-true}
 use Rattle.task.specs.declared.Access.{Access}
 use Rattle.admission.specs.Admission.{occurs}
+use Rattle.order.proofs.Opens as opens
 use Rattle.order.proofs.Update.{eqb_flip}
 use Rattle.roll.specs.Roll.{Entry, Roll}
 use Rattle.claims.specs.Queues.{Apart, AbsentSeat}
@@ -31,6 +32,15 @@ cut_of_all P v h pre post e s = all_last P pre post e (subst (All P) s h)
 pub all-++ : (P : Entry → Type 0) (v u : Roll) → All P v → All P u → All P (v ++ u)
 all-++ P [] u h k = k
 all-++ P (e ∷ v) u h k = (h.0, all-++ P v u h.1 k)
+
+-- another property, entry by entry
+pub all_map : (P Q : Entry → Type 0) (v : Roll) → ((e : Entry) → P e → Q e) → All P v → All Q v
+all_map P Q [] f h = tt
+all_map P Q (e ∷ v) f h = (f e h.0, all_map P Q v f h.1)
+
+-- two properties at once
+pub all_both : (P Q : Entry → Type 0) (v : Roll) → All P v → All Q v → All (λ e. P e × Q e) v
+all_both P Q v h k = opens.all_both P Q (λ e. P e × Q e) (λ e p q. (p, q)) v h k
 
 -- no address twice, as a fact and as a test
 pub apart_of : (xs : List Access) → repeats xs ≡ false → Apart xs

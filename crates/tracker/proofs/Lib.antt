@@ -6,5 +6,6 @@ pub mod Room
 pub mod Draining
 pub mod Parting
 mod Crowds
+pub mod Propositions
 mod Empty
 pub mod Laws

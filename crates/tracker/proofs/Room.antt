@@ -6,6 +6,7 @@ use Rattle.fault.specs.declared.TableFault.TheVariants.{TooFewVersions}
 use Rattle.task.specs.declared.Access.{Access}
 use Rattle.task.specs.declared.Direction.TheVariants.{In}
 use Rattle.task.specs.Access.{writes}
+use Rattle.admission.specs.Admission.{first_from}
 use Rattle.admission.proofs.Sound.{nowhere}
 use Rattle.roll.specs.Roll.{Roll}
 use Rattle.roll.specs.Tables.{Tables, tally, used, needs, live, fresh, occupied, missing, crowded, full_set, stall, ways}
@@ -32,11 +33,15 @@ occupied_sized n set e (x ∷ v) =
     let q = occupied_sized n set (x ∷ e) v in
     omega (arith, p, q)
 
+-- where no number passes the test, none does
+pub first_none : (p : ℕ → Bool) (i n : ℕ) → first_from p i n ≡ None → (z : ℕ) → i ≤ z → z < i + n → p z ≡ false
+first_none p i n h z lo hi =
+    let e : z ≡ i + (z - i) = omega arith in
+    ap p e ∙ nowhere p n i h (z - i) (omega arith)
+
 -- a set that is not crowded
 pub not_crowded : (count : ℕ → ℕ) → crowded count ≡ None → (z : ℕ) → z < 64 → count z ≤ 8
-not_crowded count h z lt =
-    let e : z ≡ 0 + z = omega arith in
-    ltb-false 8 (count z) (ap (λ n. ltb 8 (count n)) e ∙ nowhere (λ set. ltb ways (count set)) 64 0 h z lt)
+not_crowded count h z lt = ltb-false 8 (count z) (first_none (λ set. ltb ways (count set)) 0 64 h z (omega arith) (omega arith))
 
 -- a submission that does not stall: there are enough versions, and room in each set
 pub no_stall : (n : ℕ) (v : Roll) (xs : List Access) → stall (sized 0 n) v (0 ∷ []) xs ≡ None →

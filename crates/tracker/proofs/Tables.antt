@@ -1,5 +1,5 @@
 -- A table changed at one way stands for the map changed at one address. Assumes nothing.
-use Rattle.std.proofs.Common.{◌≡◌, ℕ, zero, suc, ◌+◌, ◌*◌, ◌/◌, ◌%◌, ◌<◌, ◌≤◌, Bool, true, false, not, ◌&&◌, eqb, ltb, ◌⊎◌, List, [], ◌∷◌, length, sym, refl, ap, ◌∙◌, subst, inl, inr, ⊎_elim, not-suc-le-zero, arith}
+use Rattle.std.proofs.Common.{◌≡◌, ℕ, zero, suc, ◌+◌, ◌*◌, ◌/◌, ◌%◌, ◌<◌, ◌≤◌, Bool, true, false, cond, not, ◌&&◌, eqb, ltb, ◌⊎◌, List, [], ◌∷◌, length, sym, refl, ap, ◌∙◌, subst, inl, inr, ⊎_elim, not-suc-le-zero, arith}
 use Rattle.std.proofs.lemmas.Bool.{cases_eq, eq-eqb, ne_eqb, cases_Bool, cond-true, cond-false, both_ways, lt-ltb}
 use Rattle.roll.specs.Tables.{tally}
 use Rattle.host.specs.Meaning.{update}
@@ -211,3 +211,13 @@ tally_most false = omega arith
 pub most_live : (w : AddressTable) (z n : ℕ) → live_ways w z n ≤ n
 most_live w z zero = omega arith
 most_live w z (suc n) = let k = most_live w z n in let e = tally_most (ltb 0 (state_of (lock_at w (z + 64 * n))).holders) in omega (arith, k, e)
+
+-- a test that fails counts nothing more
+pub count_same : (n : ℕ) (b l : Bool) → l ≡ true → n ≡ n + tally (b && not l)
+count_same n false l u = omega arith
+count_same n true l u = let k : tally (not l) ≡ 0 = ap (λ v. tally (not v)) u in omega (arith, k)
+
+-- one that holds counts one more
+pub count_more : (n' n : ℕ) (b l : Bool) → l ≡ false → n' ≡ cond b (n + 1) n → n' ≡ n + tally (b && not l)
+count_more n' n false l u e = omega (arith, e)
+count_more n' n true l u e = let k : tally (not l) ≡ 1 = ap (λ v. tally (not v)) u in omega (arith, k, e)
