@@ -17,7 +17,8 @@ impl AddressTable {
             address: 0,
             lock: Lock::new(),
         };
-        let slots = vec![in heap; free; TOTAL]?;
+        let mut slots = Vec::new(heap);
+        slots.resize(TOTAL, free)?;
         let live = vec![in heap; 0u8; SETS]?;
         Ok(AddressTable { slots, live })
     }
