@@ -1,28 +1,55 @@
-use Rattle.std.proofs.Common.{rules, inl, inr, arith, ◌≡◌, true, ℕ, ◌*◌, ◌/◌, ◌%◌, List, length, Err, length-take}
-use Rattle.std.proofs.lemmas.Result.{IfErr-weaker}
-use Rattle.std.proofs.lemmas.List.Elements.{All-take, filter_passes}
-use Rattle.std.specs.List.{AllPass}
-use Rattle.hex.specs.Hex.{decode_of, is_hex_digit}
-use Rattle.hex.specs.declared.error.FromHexError.{FromHexError}
-use Rattle.hex.specs.declared.error.FromHexError.TheVariants.{OutOfMemory}
-use Rattle.hex.proofs.HexLemmas.{decode_of-digits}
-use Rattle.cases.specs.Hexadecimal.{digits, whole_pairs}
+use Rattle.std.proofs.Common.{◌≡◌, ◌<◌, true, length, get_or, vec_items, Some, None, Ok, is_ok, refl, sym, ap, ◌∙◌, arith}
+use Rattle.std.proofs.lemmas.List.{length_push}
+use Rattle.std.proofs.lemmas.Iterator.Adapters.{YieldsList-from_bytes}
+use Rattle.std.proofs.lemmas.Iterator.Consumers.{YieldsList-from_filter_map, YieldsList-turn, YieldsList-end}
+use Rattle.hex.specs.Hex.{hex_digit_value}
+use Rattle.cases.proofs.Pairs.{values, paired_none, paired_high, paired_low, paired_all, values_fit, decoded}
 use Rattle.cases.proofs.hexadecimal.from_hex.Goals as goal
+use Rattle.cases.proofs.hexadecimal.from_hex.Goals.{In-Some, In-Some-take}
 
-even_pairs : (xs : List ℕ) → length (whole_pairs xs) % 2 ≡ 0
-even_pairs xs = let e = length-take (length xs / 2 * 2) xs in omega (arith, e)
+-- the value of this turn is the next of the text's
+turn : (c : In-Some) → (length c.loop-digit.yielded < length (values c.args.text.now)) × (c.in-Some.digit ≡ get_or (values c.args.text.now) (length c.loop-digit.yielded) c.in-Some.digit)
+turn c =
+    YieldsList-turn (YieldsList-from_filter_map _ hex_digit_value (YieldsList-from_bytes c.args.text.now cc) c.filter_map-digit-items.ensures.closure (λ x r q k. (refl, k.met)))
+    c.loop-digit.yielded _ c.loop-digit.yielded_by _ _ c.in-Some.digit c.in-Some.is c.next.ensures.steps
 
-all_digits : (text : List ℕ) → AllPass is_hex_digit (whole_pairs (digits text))
-all_digits text =
-    All-take (λ c. is_hex_digit c ≡ true) (length (digits text) / 2 * 2) (digits text) (filter_passes is_hex_digit text)
+digit_fits : (c : In-Some) → c.in-Some.digit < 16
+digit_fits c = rw (turn c).1 (values_fit c.args.text.now (length c.loop-digit.yielded) c.in-Some.digit (turn c).0)
 
--- pairs of digits are decoded
-decoded : (text : List ℕ) (fault : FromHexError) → decode_of (whole_pairs (digits text)) ≡ Err fault → fault ≡ OutOfMemory
-decoded text fault refused =
-    let bytes = decode_of-digits (whole_pairs (digits text)) (even_pairs (digits text)) (all_digits text) in cc bytes.1
+high_fits : (c : In-Some-take) → c.in-Some-take.high < 16
+high_fits c = c.loop-digit.invariant.small c.in-Some-take.high (sym c.take.ensures.value ∙ c.in-Some-take.is)
 
-pub returns-clause-memory : goal.returns-clause-memory
-returns-clause-memory c =
+pub loop-digit-init : goal.loop-digit-init
+loop-digit-init c = rw c.new-bytes.ensures.items (paired_none (values c.args.text.now))
+
+pub loop-digit-preserved-in-None-take : goal.loop-digit-preserved-in-None-take
+loop-digit-preserved-in-None-take c =
+    let t = turn (goal.at.loop-digit-preserved-in-None-take c).In-Some in
+    let fits = digit_fits (goal.at.loop-digit-preserved-in-None-take c).In-Some in
+    let none : c.loop-digit.high ≡ None = sym c.take.ensures.value ∙ c.in-None-take.is in
+    rw (length_push c.loop-digit.yielded c.in-Some.digit)
+    (paired_high (values c.args.text.now) (length c.loop-digit.yielded) (vec_items c.loop-digit.bytes) c.in-Some.digit (rw none at c.loop-digit.invariant) t.0 t.1 fits)
+
+pub overflow_mul-high : goal.overflow_mul-high
+overflow_mul-high c = omega (arith, high_fits (goal.at.overflow_mul-high c).In-Some-take)
+
+pub overflow_add-high : goal.overflow_add-high
+overflow_add-high c =
+    omega (arith, high_fits (goal.at.overflow_add-high c).In-Some-take, digit_fits (goal.at.overflow_add-high c).In-Some)
+
+pub loop-digit-preserved : goal.loop-digit-preserved
+loop-digit-preserved c =
+    let t = turn (goal.at.loop-digit-preserved c).In-Some in
+    let some : c.loop-digit.high ≡ Some c.in-Some-take.high = sym c.take.ensures.value ∙ c.in-Some-take.is in
+    let pushed : is_ok c.push.result ≡ true = sym c.map_err.ensures.variant ∙ ap is_ok c.in_ok-map_err-in-Some-take.was in
+    rw (length_push c.loop-digit.yielded c.in-Some.digit, c.take.ensures.after, c.push.ensures.items, pushed)
+    (paired_low (values c.args.text.now) (length c.loop-digit.yielded) (vec_items c.loop-digit.bytes) c.in-Some-take.high c.in-Some.digit (rw some at c.loop-digit.invariant) t.0 t.1)
+
+pub returns-clause-bytes : goal.returns-clause-bytes
+returns-clause-bytes c =
     let text = c.args.text.now in
-    let same : c.as_slice.result.now ≡ whole_pairs (digits text) = search rules in
-    IfErr-weaker c.decode.result _ _ (λ fault h. elim (rw same at h) [ inl memory ↦ memory | inr refused ↦ decoded text fault refused ]) c.decode.ensures.err
+    let end =
+    YieldsList-end (YieldsList-from_filter_map _ hex_digit_value (YieldsList-from_bytes text cc) c.filter_map-digit-items.ensures.closure (λ x r q k. (refl, k.met))) c.loop-digit.yielded _
+    c.loop-digit.yielded_by _ _ c.in-None.is c.next.ensures.steps in
+    decoded text
+    ∙ ap Ok (paired_all (values text) (length c.loop-digit.yielded) (vec_items c.loop-digit.bytes) c.loop-digit.high c.loop-digit.invariant (omega (arith, end.1)))
