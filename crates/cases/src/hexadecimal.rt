@@ -1,23 +1,20 @@
 // Bytes that are written in hexadecimal.
-ghost use Rattle.std.specs.Prelude.{◌≡◌, IfOk, IfErr, Ok};
+ghost use Rattle.std.specs.Prelude.{◌≡◌, IfOk, Ok};
 ghost use Rattle.hex.specs.Hex.{decode_of, hex_digit_value};
-ghost use Rattle.hex.specs.declared.error.FromHexError.TheVariants.{OutOfMemory};
 ghost use Rattle.cases.specs.Hexadecimal.{digits, whole_pairs};
 
-use hex::FromHexError;
 use std::alloc::{AllocError, Global};
 
 // The bytes that pairs of hexadecimal digits write. Another character, and a last digit without a second, is passed over.
-pub fn from_hex(heap: Global, text: &str) -> Result<Vec<u8>, FromHexError>
+pub fn from_hex(heap: Global, text: &str) -> Result<Vec<u8>, AllocError>
     ensures bytes { IfOk result (λ v. decode_of (whole_pairs (digits text.now)) ≡ Ok v.items) }
-    ensures memory { IfErr result (λ fault. fault ≡ OutOfMemory) }
 {
     let mut bytes = Vec::new(heap);
     let mut high = None;
     for digit in text.bytes().filter_map(digit_value) {
         match high.take() {
             None => high = Some(digit),
-            Some(high) => bytes.push(high * 16 + digit).map_err(AllocError::from)?,
+            Some(high) => bytes.push(high * 16 + digit)?,
         }
     }
     Ok(bytes)

@@ -4,27 +4,28 @@ ghost use Rattle.std.specs.Str.Iter.{split_whitespace_rest};
 
 use anyhow::{Context, anyhow};
 use runs::Call;
-use std::alloc::Global;
 use std::str::{FromStr, SplitWhitespace};
 use task::{Access, Direction};
 
 // What a word of a case asks for, with the words behind it.
-#[derive(Drop)]
+#[derive(Clone, Copy)]
 pub enum Request<'a> {
-    Call(OwnedCall),
+    Call(ListedCall),
     Action(Action),
     // Feed the messages of these bytes, in hexadecimal, until one is refused.
     Feed(&'a str),
 }
 
-// One of the four calls of the manager.
-// Kept: a Call borrows its accesses; those of a case are read from its words and stay for the second run.
-#[derive(Drop)]
-pub enum OwnedCall {
+// One of the four calls of the manager. The accesses of a submission are those of the case's list from one place up to before another.
+// Kept: a Call borrows its accesses, and those of a case stay for the second run. A Vec for each submission was tried: of a case of
+// 200,000 submissions of one access it took the program to one and a half times the memory.
+#[derive(Clone, Copy)]
+pub enum ListedCall {
     Submit {
         name: u32,
         kind: u32,
-        accesses: Vec<Access>,
+        from: usize,
+        to: usize,
     },
     Take,
     Step {
@@ -48,12 +49,12 @@ pub enum Action {
 }
 
 impl<'a> Request<'a> {
-    // The request that begins with the word.
+    // The request that begins with the word. The accesses of a submission join the list.
     // Kept: no value holds that the words only become fewer, and a struct around them would say it of each of its methods.
     pub fn read(
-        heap: Global,
         word: &str,
         words: &mut SplitWhitespace<'a>,
+        list: &mut Vec<Access>,
     ) -> anyhow::Result<Request<'a>>
         ensures { length (split_whitespace_rest words.new) ≤ length (split_whitespace_rest words.old) }
     {
@@ -61,21 +62,24 @@ impl<'a> Request<'a> {
             "submit" => {
                 let name = number(words, "a name or a kind is missing")?;
                 let kind = number(words, "a name or a kind is missing")?;
-                let accesses = accesses(heap, words)?;
-                Ok(Request::Call(OwnedCall::Submit {
+                let from = list.len();
+                read_accesses(words, list)?;
+                let to = list.len();
+                Ok(Request::Call(ListedCall::Submit {
                     name,
                     kind,
-                    accesses,
+                    from,
+                    to,
                 }))
             }
-            "take" => Ok(Request::Call(OwnedCall::Take)),
+            "take" => Ok(Request::Call(ListedCall::Take)),
             "step" => {
                 let seat = number(words, "a seat is missing")?;
-                Ok(Request::Call(OwnedCall::Step { seat }))
+                Ok(Request::Call(ListedCall::Step { seat }))
             }
             "finish" => {
                 let seat = number(words, "a seat is missing")?;
-                Ok(Request::Call(OwnedCall::Finish { seat }))
+                Ok(Request::Call(ListedCall::Finish { seat }))
             }
             "turn" => Ok(Request::Action(Action::Turn)),
             "dispatch" => Ok(Request::Action(Action::Dispatch)),
@@ -91,22 +95,23 @@ impl<'a> Request<'a> {
     }
 }
 
-impl OwnedCall {
-    // The call, with its accesses lent.
-    pub fn borrowed(&self) -> Call<'_> {
+impl ListedCall {
+    // The call, with its accesses lent from the list, where the list has them.
+    pub fn over(self, list: &[Access]) -> Option<Call<'_>> {
         match self {
-            OwnedCall::Submit {
+            ListedCall::Submit {
+                name,
+                kind,
+                from,
+                to,
+            } => list.get(from..to).map(|accesses| Call::Submit {
                 name,
                 kind,
                 accesses,
-            } => Call::Submit {
-                name: *name,
-                kind: *kind,
-                accesses: accesses.as_slice(),
-            },
-            OwnedCall::Take => Call::Take,
-            OwnedCall::Step { seat } => Call::Step { seat: *seat },
-            OwnedCall::Finish { seat } => Call::Finish { seat: *seat },
+            }),
+            ListedCall::Take => Some(Call::Take),
+            ListedCall::Step { seat } => Some(Call::Step { seat }),
+            ListedCall::Finish { seat } => Some(Call::Finish { seat }),
         }
     }
 }
@@ -121,25 +126,20 @@ where
     Ok(word.parse::<T>()?)
 }
 
-// The accesses of a submission, up to the full stop behind them.
-fn accesses(heap: Global, words: &mut SplitWhitespace<'_>) -> anyhow::Result<Vec<Access>>
+// The accesses of a submission, up to the full stop behind them, join the list.
+fn read_accesses(words: &mut SplitWhitespace<'_>, list: &mut Vec<Access>) -> anyhow::Result<()>
     ensures { length (split_whitespace_rest words.new) ≤ length (split_whitespace_rest words.old) }
 {
-    let mut accesses = Vec::new(heap);
     while let Some(word) = words.next() {
         // Kept: these words are those of the cases alone, and `Direction` and `FromStr` are both of other crates.
         let direction = match word {
             "in" => Direction::In,
             "out" => Direction::Out,
             "inout" => Direction::InOut,
-            _ => {
-                // A case may have many submissions, and none of them grows.
-                accesses.shrink_to_fit();
-                return Ok(accesses);
-            }
+            _ => return Ok(()),
         };
         let address = number(words, "an address is missing")?;
-        accesses.push(Access { address, direction })?;
+        list.push(Access { address, direction })?;
     }
     Err(anyhow!("a submission ends with a full stop"))
 }

@@ -1,7 +1,8 @@
 // One case.
-use crate::asked::{OwnedCall, Request, number};
+use crate::asked::{Request, number};
 use crate::bench::Bench;
 use crate::shown::show;
+use anyhow::Context;
 use cases::same_stamps;
 use fault::ManagerFault;
 use queue::{Line, Notice};
@@ -48,17 +49,24 @@ pub fn run_case(rt: &HostRuntime, words: &mut SplitWhitespace<'_>) -> anyhow::Re
         work: Line::new(work_slots.as_mut_slice()),
         notices: Line::new(notice_slots.as_mut_slice()),
     };
-    // The calls that were made, as long as nothing else is asked for.
+    // The calls that were made, as long as nothing else is asked for, and the accesses of their submissions.
     let mut made = Some(Vec::new(heap));
+    let mut list = Vec::new(heap);
     let mut answers = Vec::new(heap);
     while let Some(word) = words.next() {
-        match Request::read(heap, word, words)? {
+        match Request::read(word, words, &mut list)? {
             Request::Call(call) => {
-                let answer = bench.perform(&call.borrowed());
+                let lent = call
+                    .over(list.as_slice())
+                    .context("the list has the accesses")?;
+                let answer = bench.perform(&lent);
                 show(rt, answer)?;
-                if let Some(calls) = &mut made {
-                    calls.push(call)?;
-                    answers.push(answer)?;
+                match &mut made {
+                    Some(calls) => {
+                        calls.push(call)?;
+                        answers.push(answer)?;
+                    }
+                    None => list.clear(),
                 }
             }
             Request::Action(action) => {
@@ -74,7 +82,10 @@ pub fn run_case(rt: &HostRuntime, words: &mut SplitWhitespace<'_>) -> anyhow::Re
     let stamps = StampsLeft { host: &bench.host };
     print!(rt; "{stamps}")?;
     if let Some(made) = &made {
-        let calls: Vec<Call<'_>> = made.iter().map(OwnedCall::borrowed).collect(heap)?;
+        let calls: Vec<Call<'_>> = made
+            .iter()
+            .filter_map(|call| call.over(list.as_slice()))
+            .collect(heap)?;
         run_again(rt, sizes, calls.as_slice(), answers.as_slice(), &bench.host)?;
     }
     Ok(())

@@ -41,15 +41,16 @@ pub loop-digit-preserved : goal.loop-digit-preserved
 loop-digit-preserved c =
     let t = turn (goal.at.loop-digit-preserved c).In-Some in
     let some : c.loop-digit.high ≡ Some c.in-Some-take.high = sym c.take.ensures.value ∙ c.in-Some-take.is in
-    let pushed : is_ok c.push.result ≡ true = sym c.map_err.ensures.variant ∙ ap is_ok c.in_ok-map_err-in-Some-take.was in
+    let pushed : is_ok c.push.result ≡ true = ap is_ok c.in_ok-push-in-Some-take.was in
     rw (length_push c.loop-digit.yielded c.in-Some.digit, c.take.ensures.after, c.push.ensures.items, pushed)
     (paired_low (values c.args.text.now) (length c.loop-digit.yielded) (vec_items c.loop-digit.bytes) c.in-Some-take.high c.in-Some.digit (rw some at c.loop-digit.invariant) t.0 t.1)
 
-pub returns-clause-bytes : goal.returns-clause-bytes
-returns-clause-bytes c =
+pub returns : goal.returns
+returns c =
     let text = c.args.text.now in
     let end =
     YieldsList-end (YieldsList-from_filter_map _ hex_digit_value (YieldsList-from_bytes text cc) c.filter_map-digit-items.ensures.closure (λ x r q k. (refl, k.met))) c.loop-digit.yielded _
     c.loop-digit.yielded_by _ _ c.in-None.is c.next.ensures.steps in
-    decoded text
-    ∙ ap Ok (paired_all (values text) (length c.loop-digit.yielded) (vec_items c.loop-digit.bytes) c.loop-digit.high c.loop-digit.invariant (omega (arith, end.1)))
+    record {
+      bytes = decoded text ∙ ap Ok (paired_all (values text) (length c.loop-digit.yielded) (vec_items c.loop-digit.bytes) c.loop-digit.high c.loop-digit.invariant (omega (arith, end.1)));
+    }

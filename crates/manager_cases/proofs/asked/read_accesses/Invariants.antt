@@ -1,6 +1,6 @@
 use Rattle.std.proofs.Common.{◌≤◌, length}
 use Rattle.std.specs.Str.Iter.{split_whitespace_rest}
-use Rattle.manager_cases.proofs.asked.accesses.Given as goal
+use Rattle.manager_cases.proofs.asked.read_accesses.Given as goal
 
 -- the words that are left are words of those at the start
 abbrev pub invariant-loop-word : goal.invariant-loop-word
