@@ -17,8 +17,7 @@ impl AddressTable {
             address: 0,
             lock: Lock::new(),
         };
-        let mut slots = Vec::new(heap);
-        slots.resize(TOTAL, free)?;
+        let slots = vec![in heap; free; TOTAL]?;
         let live = vec![in heap; 0u8; SETS]?;
         Ok(AddressTable { slots, live })
     }
