@@ -9,6 +9,6 @@ mod stream_case;
 mod tests;
 
 pub use hexadecimal::from_hex;
-pub use running::{CaseJob, run_cases};
+pub use running::{CaseJob, run_cases, run_job_on_cases};
 pub use stamps::same_stamps;
 pub use stream_case::StreamCase;

@@ -3,7 +3,7 @@
 
 use rehearse_run::{MAX_INPUT, Rehearsal};
 use std::alloc::{AllocError, Global};
-use stream_program::{Job, serve};
+use stream_program::{Job, serve_job};
 
 const HELP: &str = "usage: rehearse < MESSAGES
 
@@ -26,5 +26,5 @@ impl Job for Rehearse {
 }
 
 fn main(rt: HostRuntime) -> anyhow::Result<()> {
-    serve::<Rehearse>(&rt, HELP, MAX_INPUT as u64)
+    serve_job::<Rehearse>(&rt, HELP, MAX_INPUT as u64)
 }

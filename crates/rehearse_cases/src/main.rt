@@ -3,7 +3,7 @@
 // that `serial` leaves.
 #![tactic(auto)]
 
-use cases::{CaseJob, run_cases, same_stamps};
+use cases::{CaseJob, run_job_on_cases, same_stamps};
 use rehearse_run::Line;
 
 // Prints the lines of `rehearse`, and compares the stamps that it leaves.
@@ -27,5 +27,5 @@ impl CaseJob for Rehearse {
 }
 
 fn main(rt: HostRuntime) -> anyhow::Result<()> {
-    run_cases::<Rehearse>(&rt)
+    run_job_on_cases::<Rehearse>(&rt)
 }

@@ -3,7 +3,7 @@
 
 use serial_run::{MAX_INPUT, Report};
 use std::alloc::{AllocError, Global};
-use stream_program::{Job, serve};
+use stream_program::{Job, serve_job};
 
 const HELP: &str = "usage: serial < MESSAGES
 
@@ -26,5 +26,5 @@ impl Job for Serial {
 
 fn main(rt: HostRuntime) -> anyhow::Result<()> {
     // One byte more than is looked at, so that the report can say that there were more.
-    serve::<Serial>(&rt, HELP, MAX_INPUT as u64 + 1)
+    serve_job::<Serial>(&rt, HELP, MAX_INPUT as u64 + 1)
 }

@@ -2,7 +2,7 @@
 // hexadecimal (or - for none). Prints the label and what `serial` prints.
 #![tactic(auto)]
 
-use cases::{CaseJob, run_cases};
+use cases::{CaseJob, run_job_on_cases};
 
 // Prints the report of `serial`.
 struct Serial;
@@ -16,5 +16,5 @@ impl CaseJob for Serial {
 }
 
 fn main(rt: HostRuntime) -> anyhow::Result<()> {
-    run_cases::<Serial>(&rt)
+    run_job_on_cases::<Serial>(&rt)
 }
