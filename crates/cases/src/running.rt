@@ -24,8 +24,8 @@ pub fn run_cases<F: Fn(&[u8]) -> anyhow::Result<()>>(rt: &HostRuntime, job: F) -
 }
 
 // The same for a job that is a type and holds no value: nothing is asked.
-// Kept: `run_cases` cannot be made of this, since a type holds no value; this made of `run_cases` would put a closure between a program
-// and its job.
+// Kept: `run_cases` cannot be made of this, since a type holds no value; this made of `run_cases` would call a program's job
+// through a closure.
 pub fn run_job_on_cases<J: CaseJob>(rt: &HostRuntime) -> anyhow::Result<()> {
     for line in rt.lines(rt.alloc()) {
         let line = line?;

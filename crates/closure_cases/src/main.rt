@@ -1,5 +1,5 @@
 // Tries `serve` and `run_cases` with closures that hold a value: the first four bytes of standard input go to the one, and each line
-// behind them is a case for the other. Prints how often the value stands among the bytes.
+// behind them is a case for the other. Prints the value and the bytes.
 #![tactic(auto)]
 
 use cases::run_cases;
@@ -7,19 +7,19 @@ use stream_program::serve;
 
 const HELP: &str = "usage: closure_cases < BYTES
 
-Counts the letters `a` in the first four bytes of standard input. Each line behind them is a case, of which it counts the bytes 7.
-";
+Prints the first four bytes of standard input, and then the bytes of the case on each line behind them.";
 
 fn main(rt: HostRuntime) -> anyhow::Result<()> {
-    let letter = b'a';
-    serve(&rt, HELP, 4, |bytes| {
-        Ok(bytes.iter().filter(|byte| **byte == letter).count())
-    })?;
-    rt.println("")?;
-    let number = 7;
+    let word = "stream";
+    serve(
+        &rt,
+        HELP,
+        4,
+        |bytes| format!(in rt.alloc(); "{word} {bytes:?}\n"),
+    )?;
+    let word = "case";
     run_cases(&rt, |bytes| {
-        let found = bytes.iter().filter(|byte| **byte == number).count();
-        println!(rt; "{found}")?;
+        println!(rt; "{word} {bytes:?}")?;
         Ok(())
     })
 }

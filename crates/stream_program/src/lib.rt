@@ -37,7 +37,7 @@ pub fn serve<R: Display + Drop, F: FnOnce(&[u8]) -> Result<R, AllocError>>(
 }
 
 // The same for a job that is a type and holds no value: nothing is asked.
-// Kept: `serve` cannot be made of this, since a type holds no value; this made of `serve` would put a closure between a program and its job.
+// Kept: `serve` cannot be made of this, since a type holds no value; this made of `serve` would call a program's job through a closure.
 pub fn serve_job<J: Job>(rt: &HostRuntime, help: &str, most: u64) -> anyhow::Result<()> {
     if env::args(rt)?.count() > 1 {
         rt.println(help)?;
