@@ -7,7 +7,8 @@ use stream_program::serve;
 
 const HELP: &str = "usage: closure_cases < BYTES
 
-Prints the first four bytes of standard input, and then the bytes of the case on each line behind them.";
+Prints the first four bytes of standard input, and then the bytes of the case on each line behind them.
+With an argument it prints this text in place of the four bytes, and every line is a case.";
 
 fn main(rt: HostRuntime) -> anyhow::Result<()> {
     let word = "stream";
